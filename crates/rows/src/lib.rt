@@ -1,0 +1,25 @@
+//! The values of a relation, their order, and their spelling in a file.
+#![tactic(auto)]
+
+mod field;
+mod order;
+mod plain;
+mod text;
+mod value;
+
+pub use field::{ColType, FieldErr, field_text, read_field};
+pub use lists::Sequence;
+pub use order::{SortKey, SortKeyList, arrange_rows, compare, row_order};
+pub use plain::{
+    Bound, BoundList, BoundOp, Catalog, Column, ColumnList, ColumnRef, ColumnRefList, Interval,
+    KeyEntry, KeyEntryList, KeyIndex, KeyIndexList, KeyPair, KeyPairList, Layout, LayoutColumn,
+    LayoutColumnList, LayoutPart, Machine, Relation, Step, StepList,
+};
+pub use text::Text;
+pub use value::Value;
+
+/// One value for each column.
+pub type Row = Sequence<Value>;
+
+/// Rows in order.
+pub type Rows = Sequence<Row>;
