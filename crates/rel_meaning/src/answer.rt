@@ -1,0 +1,161 @@
+ghost use Rattle.std.specs.Prelude.{◌≡◌, ◌<◌, ◌^◌, ◌++◌, [], ◌∷◌, All, IfOk, IsSome, IsTrue, OnOk, length, map, filter, ◌+◌, MatchOption};
+ghost use Rattle.std.specs.Option.{option_map};
+ghost use Rattle.rel_meaning.specs.Expression.{expression_of, output_of, question_of};
+ghost use Rattle.rel_meaning.specs.Joined.{answers, joined};
+ghost use Rattle.rel_meaning.specs.Layouts.{column_in, column_type, IsRowIn};
+ghost use Rattle.rel_meaning.specs.Meaning.{layout_from, layout_of, layout_column, meaning, passes, project, IsResolved};
+ghost use Rattle.rel_meaning.specs.Typing.{type_of, is_truth};
+
+use crate::{Database, Expr, Query, Target, Var, evaluate};
+use lists::{Duplicate, Sequence};
+use rows::{ColType, Column, Layout, LayoutColumn, LayoutPart, Row, Rows, Value, arrange_rows};
+use std::alloc::{AllocError, Global};
+
+// The type that a column has in a layout.
+fn column_layout(column: &Column) -> LayoutColumn
+    ensures { result ≡ layout_column column.now }
+{
+    LayoutColumn {
+        col_type: column.col_type,
+        bound: match column.col_type {
+            ColType::Int4 => 1 << 31,
+            ColType::Text | ColType::Bool => 0,
+        },
+    }
+}
+
+fn column_layouts(alloc: Global, columns: &[Column]) -> Result<Vec<LayoutColumn>, AllocError>
+    ensures { IfOk result (λ v. v.items ≡ map layout_column columns.now) }
+{
+    columns.iter().map(column_layout).collect(alloc)
+}
+
+// A row with a second one behind it.
+fn with_row(alloc: Global, first: &Row, second: &Row) -> Result<Row, AllocError>
+    ensures { IfOk result (λ row. row ≡ first.now ++ second.now) }
+{
+    let mut values = first.copy(alloc)?.into_vec();
+    for value in second.items() {
+        values.push(value.duplicate(alloc)?)?;
+    }
+    Ok(Sequence::from_vec(values))
+}
+
+// The values of the targets.
+fn target_values(
+    alloc: Global,
+    targets: &[Target],
+    row: &Row,
+    layout: &Layout,
+) -> Result<Row, AllocError>
+    requires typed { All (λ target. IsSome (type_of (expression_of target.expr) (column_type layout.now))) targets.now }
+    requires row { IsRowIn layout.now row.now }
+    ensures { IfOk result (λ v. v ≡ project (map output_of targets.now) (column_in layout.now row.now)) }
+{
+    let mut values = Vec::new(alloc);
+    for target in targets {
+        values.push(evaluate(alloc, &target.expr, row, layout)?)?;
+    }
+    Ok(Sequence::from_vec(values))
+}
+
+// Whether the test is true or absent.
+fn is_kept(
+    alloc: Global,
+    test: &Option<Expr>,
+    row: &Row,
+    layout: &Layout,
+) -> Result<bool, AllocError>
+    requires typed { MatchOption test.now (Unit {0}) (λ e. IsTrue (is_truth (type_of (expression_of e) (column_type layout.now)))) }
+    requires row { IsRowIn layout.now row.now }
+    ensures { IfOk result (λ kept. kept ≡ passes (option_map expression_of test.now) (column_in layout.now row.now)) }
+{
+    match test {
+        None => Ok(true),
+        Some(test) => Ok(matches!(evaluate(alloc, test, row, layout)?, Value::Truth(true))),
+    }
+}
+
+// The layout of the range variables.
+fn query_layout(alloc: Global, db: &Database, vars: &[Var]) -> Result<Layout, AllocError>
+    requires few { length vars.now < 2 ^ 32 }
+    requires relations { All (λ v. v.relation < length db.now) vars.now }
+    ensures { IfOk result (λ layout. layout ≡ layout_of db.now vars.now) }
+{
+    let mut parts = Vec::new(alloc);
+    for (number, var) in vars.iter().enumerate() {
+        let columns = db.get(var.relation as usize).columns.items();
+        parts.push(LayoutPart {
+            var: number as u32,
+            columns: Sequence::from_vec(column_layouts(alloc, columns)?),
+        })?;
+    }
+    Ok(Sequence::from_vec(parts))
+}
+
+// Adds the answer that a whole row gives, if it passes the test.
+fn add_answer(
+    alloc: Global,
+    query: &Query,
+    layout: &Layout,
+    row: &Row,
+    out: &mut Vec<Row>,
+) -> Result<(), AllocError>
+    requires row { IsRowIn layout.now row.now }
+    requires targets { All (λ target. IsSome (type_of (expression_of target.expr) (column_type layout.now))) query.now.targets }
+    requires test { MatchOption query.now.test (Unit {0}) (λ e. IsTrue (is_truth (type_of (expression_of e) (column_type layout.now)))) }
+    ensures { OnOk result (out.new.items ≡ out.old.items ++ answers (question_of query.now) layout.now (row.now ∷ [])) }
+{
+    if is_kept(alloc, &query.test, row, layout)? {
+        out.push(target_values(alloc, query.targets.items(), row, layout)?)?;
+    }
+    Ok(())
+}
+
+// Adds the answers whose choices begin with the row.
+fn visit(
+    alloc: Global,
+    db: &Database,
+    query: &Query,
+    layout: &Layout,
+    front: &Row,
+    vars: &[Var],
+    out: &mut Vec<Row>,
+) -> Result<(), AllocError>
+    requires relations { All (λ v. v.relation < length db.now) vars.now }
+    requires rows { All (IsRowIn layout.now) (joined db.now front.now vars.now) }
+    requires targets { All (λ target. IsSome (type_of (expression_of target.expr) (column_type layout.now))) query.now.targets }
+    requires test { MatchOption query.now.test (Unit {0}) (λ e. IsTrue (is_truth (type_of (expression_of e) (column_type layout.now)))) }
+    ensures { OnOk result (out.new.items ≡ out.old.items ++ answers (question_of query.now) layout.now (joined db.now front.now vars.now)) }
+{
+    let Some((var, others)) = vars.split_first() else {
+        return add_answer(alloc, query, layout, front, out);
+    };
+    let rows = db.get(var.relation as usize).rows.items();
+    for row in rows {
+        let longer = with_row(alloc, front, row)?;
+        visit(alloc, db, query, layout, &longer, others, out)?;
+    }
+    Ok(())
+}
+
+/// The rows that answer a query.
+pub fn answer_plain(alloc: Global, db: &Database, query: &Query) -> Result<Rows, AllocError>
+    requires { IsResolved db.now (question_of query.now) }
+    ensures { IfOk result (λ rows. rows ≡ meaning db.now (question_of query.now)) }
+{
+    let layout = query_layout(alloc, db, query.vars.items())?;
+    let front = Sequence::new(alloc);
+    let mut rows = Vec::new(alloc);
+    visit(
+        alloc,
+        db,
+        query,
+        &layout,
+        &front,
+        query.vars.items(),
+        &mut rows,
+    )?;
+    arrange_rows(&mut rows, query.unique, query.keys.items())?;
+    Ok(Sequence::from_vec(rows))
+}

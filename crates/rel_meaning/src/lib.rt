@@ -1,0 +1,14 @@
+//! What a query means over tables, without a plan: choose a row for each range variable, keep the choices that pass
+//! the test, compute the targets and put the rows in order.
+#![tactic(auto)]
+
+mod answer;
+mod evaluation;
+mod expr;
+mod place;
+mod query;
+
+pub use answer::answer_plain;
+pub use evaluation::evaluate;
+pub use expr::{ArithOp, CompareOp, Expr};
+pub use query::{Database, Query, Table, Target, TargetList, Var, VarList};
