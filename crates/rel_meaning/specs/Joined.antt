@@ -4,6 +4,8 @@ use Rattle.std.specs.List.{flat_map}
 use Rattle.rows.specs.declared.value.Value.{Value}
 use Rattle.rel_meaning.specs.declared.query.Var.{Var}
 use Rattle.rel_meaning.specs.Expression.{Question}
+use Rattle.rel_meaning.specs.declared.answer.Choice.{Choice}
+use Rattle.rel_meaning.specs.declared.answer.Choice.TheVariants.{One, Several}
 use Rattle.rel_meaning.specs.declared.query.Table.{Table}
 use Rattle.rows.specs.declared.plain.LayoutPart.{LayoutPart}
 use Rattle.rel_meaning.specs.Layouts.{column_in}
@@ -17,3 +19,8 @@ joined db front (v ∷ vs) = flat_map (λ row. joined db (front ++ row) vs) (row
 -- the rows that pass the test, as the values of the targets
 abbrev pub answers : Question → List LayoutPart → List (List Value) → List (List Value)
 answers q layout rows = map (λ row. project q.targets (column_in layout row)) (filter (λ row. passes q.test (column_in layout row)) rows)
+
+-- a choice as one row
+abbrev pub row_of : Choice → List Value
+row_of (One row) = row.now
+row_of (Several row) = row

@@ -1,7 +1,7 @@
 ghost use Rattle.std.specs.Prelude.{◌≡◌, ◌<◌, ◌^◌, ◌++◌, [], ◌∷◌, All, IfOk, IsSome, IsTrue, OnOk, length, map, filter, ◌+◌, MatchOption};
 ghost use Rattle.std.specs.Option.{option_map};
 ghost use Rattle.rel_meaning.specs.Expression.{expression_of, output_of, question_of};
-ghost use Rattle.rel_meaning.specs.Joined.{answers, joined};
+ghost use Rattle.rel_meaning.specs.Joined.{answers, joined, row_of};
 ghost use Rattle.rel_meaning.specs.Layouts.{column_in, column_type, IsRowIn};
 ghost use Rattle.rel_meaning.specs.Meaning.{layout_from, layout_of, layout_column, meaning, passes, project, IsResolved};
 ghost use Rattle.rel_meaning.specs.Typing.{type_of, is_truth};
@@ -30,6 +30,24 @@ fn column_layouts(alloc: Global, columns: &[Column]) -> Result<Vec<LayoutColumn>
     columns.iter().map(column_layout).collect(alloc)
 }
 
+// A choice of rows for some variables, as one row.
+#[derive(Drop)]
+enum Choice<'a> {
+    One(&'a Row),
+    Several(Row),
+}
+
+impl Choice<'_> {
+    fn row(&self) -> &Row
+        ensures { result.now ≡ row_of self.now }
+    {
+        match self {
+            Choice::One(row) => row,
+            Choice::Several(row) => row,
+        }
+    }
+}
+
 // A row with a second one behind it.
 fn with_row(alloc: Global, first: &Row, second: &Row) -> Result<Row, AllocError>
     ensures { IfOk result (λ row. row ≡ first.now ++ second.now) }
@@ -39,6 +57,17 @@ fn with_row(alloc: Global, first: &Row, second: &Row) -> Result<Row, AllocError>
         values.push(value.duplicate(alloc)?)?;
     }
     Ok(Sequence::from_vec(values))
+}
+
+// A choice with a further row. A first row is borrowed, so that a query over one table copies none.
+fn with_choice<'a>(alloc: Global, front: &Row, row: &'a Row) -> Result<Choice<'a>, AllocError>
+    ensures { IfOk result (λ choice. row_of choice ≡ front.now ++ row.now) }
+{
+    if front.is_empty() {
+        Ok(Choice::One(row))
+    } else {
+        Ok(Choice::Several(with_row(alloc, front, row)?))
+    }
 }
 
 // The values of the targets.
@@ -133,13 +162,14 @@ fn visit(
     };
     let rows = db.get(var.relation as usize).rows.items();
     for row in rows {
-        let longer = with_row(alloc, front, row)?;
-        visit(alloc, db, query, layout, &longer, others, out)?;
+        let longer = with_choice(alloc, front, row)?;
+        visit(alloc, db, query, layout, longer.row(), others, out)?;
     }
     Ok(())
 }
 
-/// The rows that answer a query.
+/// The rows that answer a query: its relational meaning, in the order of its keys and then of its targets. An `Err` is
+/// want of memory.
 pub fn answer_plain(alloc: Global, db: &Database, query: &Query) -> Result<Rows, AllocError>
     requires { IsResolved db.now (question_of query.now) }
     ensures { IfOk result (λ rows. rows ≡ meaning db.now (question_of query.now)) }

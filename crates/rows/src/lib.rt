@@ -4,6 +4,8 @@
 mod field;
 mod order;
 mod plain;
+#[cfg(test)]
+mod tests;
 mod text;
 mod value;
 

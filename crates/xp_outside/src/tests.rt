@@ -1,0 +1,57 @@
+use crate::{
+    Drive, Gate, MemDrive, MemRack, MemShelf, MemSink, NamedFile, NoGate, PAGE, Rack, RackErr,
+    Shelf, ShelfErr, pour,
+};
+use lists::Sequence;
+use std::test::Fail;
+
+#[test]
+fn files_and_texts_in_memory_answer_as_they_are_told(rt: HostRuntime) -> Result<(), Fail> {
+    let alloc = rt.alloc();
+    let file = NamedFile {
+        name: Vec::from_slice(alloc, b"a")?,
+        bytes: Vec::from_slice(alloc, b"text")?,
+    };
+    let files = Sequence::from_vec(vec![in alloc; file]?);
+    let fails = Sequence::from_vec(vec![in alloc; 3u64]?);
+    let mut shelf = MemShelf::new(files, fails);
+    let found = shelf.fetch(alloc, b"a", 4);
+    assert!(rt; matches!(&found, Ok(bytes) if bytes.as_slice() == b"text".as_slice()));
+    assert!(rt; matches!(shelf.fetch(alloc, b"a", 3), Err(ShelfErr::TooLong)));
+    assert!(rt; matches!(shelf.fetch(alloc, b"a", 4), Err(ShelfErr::Failed)));
+    assert!(rt; matches!(shelf.fetch(alloc, b"b", 4), Err(ShelfErr::Missing)));
+    let mut sink = MemSink::new(alloc, 3, Sequence::from_vec(vec![in alloc; 3u64]?));
+    assert!(rt; pour(&mut sink, b"seven b").is_err());
+    assert_eq!(rt; sink.bytes(), b"seven ".as_slice());
+    assert_eq!(rt; sink.faults(), 1);
+    NoGate.at_position(0, 0, 0);
+    Ok(())
+}
+
+#[test]
+fn drives_in_memory_fail_where_they_are_told(rt: HostRuntime) -> Result<(), Fail> {
+    let alloc = rt.alloc();
+    let first = Sequence::from_vec(vec![in alloc; 1u64]?);
+    let second = Sequence::from_vec(vec![in alloc; 2u64]?);
+    let mut rack = MemRack::new(2, first, second, Sequence::new(alloc));
+    assert!(rt; matches!(rack.mount(alloc, 2), Err(RackErr::Failed)));
+    assert_eq!(rt; rack.faults(), 1);
+    let Ok(mut drives) = rack.mount(alloc, 2) else {
+        return Ok(());
+    };
+    let mut page = [1u8; PAGE];
+    for drive in drives.iter_mut() {
+        assert_eq!(rt; drive.capacity(), 2);
+        if drive.capacity() == 2 {
+            assert!(rt; drive.write(1, &page).is_ok());
+            assert!(rt; drive.read(0, &mut page).is_ok());
+            assert!(rt; page == [0; PAGE]);
+            let again = drive.read(1, &mut page).is_ok();
+            assert_eq!(rt; again, drive.faults() == 0);
+            page = [1; PAGE];
+        }
+    }
+    let single = MemDrive::new(alloc, 1, Sequence::new(alloc), Sequence::new(alloc))?;
+    assert_eq!(rt; single.faults(), 0);
+    Ok(())
+}
