@@ -51,6 +51,14 @@ fn drives_in_memory_fail_where_they_are_told(rt: HostRuntime) -> Result<(), Fail
             page = [1; PAGE];
         }
     }
+    if let Ok(mut wild) = WildRack::new(1, 5, 3).mount(alloc, 1) {
+        for drive in wild.iter_mut() {
+            if drive.capacity() == 1 {
+                assert!(rt; drive.read(0, &mut page).is_ok());
+                assert_eq!(rt; page[5], 3);
+            }
+        }
+    }
     let single = MemDrive::new(alloc, 1, Sequence::new(alloc), Sequence::new(alloc))?;
     assert_eq!(rt; single.faults(), 0);
     Ok(())
