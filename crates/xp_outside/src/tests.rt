@@ -1,6 +1,6 @@
 use crate::{
     Drive, Gate, MemDrive, MemRack, MemShelf, MemSink, NamedFile, NoGate, PAGE, Rack, RackErr,
-    Shelf, ShelfErr, pour,
+    Shelf, ShelfErr, WildRack, pour,
 };
 use lists::Sequence;
 use std::test::Fail;
