@@ -1,0 +1,4 @@
+pub mod Pieces
+pub mod Catalogs
+pub mod Queries
+pub mod Tables

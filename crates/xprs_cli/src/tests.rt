@@ -1,0 +1,32 @@
+use crate::folder::FolderShelf;
+use crate::terminal::StdSink;
+use std::fs;
+use std::test::Fail;
+use xp_outside::{Shelf, ShelfErr, Sink};
+
+#[test]
+fn a_folder_shelf_gives_a_file_within_its_limit(rt: HostRuntime) -> Result<(), Fail> {
+    let alloc = rt.alloc();
+    let name = "folder_shelf_test.txt";
+    fs::write(&rt, name, "ten bytes.")?;
+    let mut shelf = FolderShelf::new(&rt);
+    let found = shelf.fetch(alloc, name.as_bytes(), 10);
+    let long = shelf.fetch(alloc, name.as_bytes(), 9);
+    let lacking = shelf.fetch(alloc, b"folder_shelf_test_without_a_file", 10);
+    fs::remove_file(&rt, name)?;
+    assert!(rt; matches!(&found, Ok(bytes) if bytes.as_slice() == b"ten bytes.".as_slice()));
+    assert!(rt; matches!(long, Err(ShelfErr::TooLong)));
+    assert!(rt; matches!(lacking, Err(ShelfErr::Missing)));
+    Ok(())
+}
+
+#[test]
+fn a_writer_that_takes_no_byte_is_a_fault(rt: HostRuntime) -> Result<(), Fail> {
+    let alloc = rt.alloc();
+    let mut sink = StdSink::new(Vec::new(alloc));
+    assert_eq!(rt; sink.write(b"abc").ok(), Some(3));
+    let mut none = [0u8; 0];
+    let mut full = StdSink::new(none.as_mut_slice());
+    assert!(rt; full.write(b"abc").is_err());
+    Ok(())
+}

@@ -1,0 +1,15 @@
+//! The call that the program makes: from the words and the files to the text of the answer.
+#![tactic(auto)]
+
+mod call;
+mod fault;
+mod input;
+mod spelling;
+mod status;
+#[cfg(test)]
+mod tests;
+mod words;
+
+pub use call::answer_alone;
+pub use fault::pour_fault;
+pub use status::{Outcome, Refused, Status};
