@@ -64,9 +64,8 @@ question relation target name tested op n = record {
   keys = [];
 }
 
--- the query that a script writes over the relation
-abbrev pub query_of : Relation → List ℕ → Option Question
-query_of relation bytes = do
+abbrev pub script_of : Relation → List ℕ → Option Question
+script_of relation bytes = do
   rest ← after (codes "retrieve (") bytes
   target ← column_ref_at relation rest
   rest ← after (codes ") where ") target.2
@@ -76,6 +75,10 @@ query_of relation bytes = do
   n ← number_at op.1
   rest ← after (codes " \\g") n.1
   if is_int4_column (slice_get relation.columns tested.0) && is_end rest then Some (question relation target.0 target.1 tested.0 op.0 n.0) else None
+
+-- the query that a script writes over a relation of at most 32 columns
+abbrev pub query_of : Relation → List ℕ → Option Question
+query_of relation bytes = if nat_le (length relation.columns) 32 then script_of relation bytes else None
 
 -- the columns are there, the tested one is an int4, and the number fits 64 bits
 pub record IsAskable (columns : List Column) (target tested : ℕ) (n : ℤ) : Type 0 where

@@ -5,6 +5,8 @@ mod catalog;
 mod pieces;
 mod script;
 mod table;
+#[cfg(test)]
+mod tests;
 
 pub use catalog::read_relation;
 pub use script::read_query;

@@ -4,7 +4,7 @@ ghost use Rattle.std.specs.Char.{is_ascii_digit};
 ghost use Rattle.std.specs.Option.{option_map};
 ghost use Rattle.std.specs.Str.Parse.{digits_value};
 ghost use Rattle.rel_meaning.specs.Expression.{expression_of, output_of, question_of, number, column, compare};
-ghost use Rattle.first_forms.specs.Queries.{IsAskable, IsResolvedOver, column_ref_at, is_int4_column, number_at, op_at, place_of, query_of, question};
+ghost use Rattle.first_forms.specs.Queries.{IsAskable, IsResolvedOver, column_ref_at, is_int4_column, number_at, op_at, place_of, query_of, question, script_of};
 
 use crate::pieces::{behind, is_end, name};
 use lists::Duplicate;
@@ -136,7 +136,7 @@ struct Script<'a> {
 
 fn read_script<'a>(relation: &Relation, bytes: &'a [u8]) -> Option<Script<'a>>
     requires { length relation.now.columns ≤ 32 }
-    ensures read { option_map (λ s. question relation.now s.target.place s.target.name.now s.tested s.op s.number) result ≡ query_of relation.now bytes.now }
+    ensures read { option_map (λ s. question relation.now s.target.place s.target.name.now s.tested s.op s.number) result ≡ script_of relation.now bytes.now }
     ensures askable { IfSome result (λ s. IsAskable relation.now.columns s.target.place s.tested s.number) }
 {
     let rest = behind(bytes, b"retrieve (")?;
@@ -210,16 +210,19 @@ fn query(alloc: Global, relation: &Relation, script: &Script<'_>) -> Result<Quer
     })
 }
 
-/// The query that a script of the first form writes over a relation, and `None` for any other bytes.
+/// The query that a script of the first form writes over a relation of at most 32 columns, and `None` for any other
+/// bytes or relation.
 pub fn read_query(
     alloc: Global,
     relation: &Relation,
     bytes: &[u8],
 ) -> Result<Option<Query>, AllocError>
-    requires { length relation.now.columns ≤ 32 }
     ensures read { IfOk result (λ q. option_map question_of q ≡ query_of relation.now bytes.now) }
     ensures resolved { IfOk result (λ q. IfSome q (λ q. IsResolvedOver relation.now.columns (question_of q))) }
 {
+    if relation.columns.len() > 32 {
+        return Ok(None);
+    }
     match read_script(relation, bytes) {
         Some(script) => Ok(Some(query(alloc, relation, &script)?)),
         None => Ok(None),

@@ -1,4 +1,4 @@
-ghost use Rattle.std.specs.Prelude.{◌≡◌, ◌≤◌, IfOk, length};
+ghost use Rattle.std.specs.Prelude.{◌≡◌, ◌≤◌, IfOk};
 ghost use Rattle.first_forms.specs.Queries.{IsResolvedOver};
 ghost use Rattle.first_forms.specs.Tables.{AreRowsOf};
 ghost use Rattle.rel_meaning.specs.Expression.{question_of};
@@ -67,7 +67,6 @@ fn catalog_input<S: Shelf>(alloc: Global, shelf: &mut S, name: &[u8]) -> Result<
     ensures files { S.files shelf.new ≡ S.files shelf.old }
     ensures count { S.faults shelf.old ≤ S.faults shelf.new }
     ensures told { Told (S.files shelf.old) (S.faults shelf.old) (S.faults shelf.new) (λ r. r) result (λ files. catalog_file files name.now) }
-    ensures few { IfOk result (λ r. length r.columns ≤ 32) }
 {
     let bytes = fetched(alloc, shelf, name)?;
     match read_relation(alloc, bytes.as_slice()) {
@@ -84,7 +83,6 @@ fn script_input<S: Shelf>(
     relation: &Relation,
     name: &[u8],
 ) -> Result<Query, Status>
-    requires { length relation.now.columns ≤ 32 }
     ensures files { S.files shelf.new ≡ S.files shelf.old }
     ensures count { S.faults shelf.old ≤ S.faults shelf.new }
     ensures told { Told (S.files shelf.old) (S.faults shelf.old) (S.faults shelf.new) question_of result (λ files. script_file files relation.now name.now) }
