@@ -1,7 +1,6 @@
 -- A question of the first form may be asked of a table.
-use Rattle.std.proofs.Common.{◌≡◌, ℕ, ℤ, pos, nat_abs, ◌+◌, ◌<◌, ◌≤◌, ◌^◌, suc, zero, Bool, true, false, cond, List, [], ◌∷◌, ◌++◌, map, length, Option, Some, None, IsSome, IsTrue, refl, sym, ap, ◌∙◌, subst, arith, rules, lit<, slice_get, nat_le, nat_lt, append-nil}
-use Rattle.std.specs.Prelude.{⊤}
-use Rattle.std.specs.Option.{option_map, option_and_then}
+use Rattle.std.proofs.Common.{◌≡◌, ℕ, ℤ, nat_abs, ◌<◌, ◌^◌, suc, zero, true, List, [], ◌∷◌, map, length, Option, Some, None, IsSome, IsTrue, refl, ◌∙◌, arith, lit<, slice_get, nat_le, nat_lt, append-nil}
+use Rattle.std.specs.Option.{option_map}
 use Rattle.std.proofs.lemmas.Option.{slice_get-map}
 use Rattle.std.proofs.lemmas.List.{length-map}
 use Rattle.std.proofs.lemmas.List.Elements.{All-from_recursion}
@@ -12,10 +11,8 @@ use Rattle.rows.specs.declared.plain.LayoutColumn.{LayoutColumn}
 use Rattle.rows.specs.declared.field.ColType.{ColType}
 use Rattle.rows.specs.declared.field.ColType.TheVariants as col
 use Rattle.rel_meaning.specs.declared.expr.CompareOp.{CompareOp}
-use Rattle.rel_meaning.specs.declared.query.Table.{Table}
-use Rattle.rel_meaning.specs.declared.query.Var.{Var}
 use Rattle.rel_meaning.specs.Layouts.{column_type}
-use Rattle.rel_meaning.specs.Meaning.{layout_of, layout_column, bound_at, IsTable, IsResolved}
+use Rattle.rel_meaning.specs.Meaning.{layout_column, bound_at, IsTable}
 use Rattle.rel_meaning.specs.Typing.{type_of, integer_within, compare_type, is_truth}
 use Rattle.first_forms.specs.Queries.{IsAskable, IsResolvedOver, is_int4, is_int4_column, question}
 

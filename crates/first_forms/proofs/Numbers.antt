@@ -1,5 +1,5 @@
 -- The number that a few digits write.
-use Rattle.std.proofs.Common.{◌≡◌, ℕ, ◌+◌, ◌*◌, ◌-◌, ◌<◌, ◌≤◌, ◌^◌, suc, zero, ◌&&◌, Bool, true, false, List, [], ◌∷◌, length, take, get_or, refl, rules, arith, sym, ◌∙◌, ap, lit≤, lt_of_le_of_lt, cond}
+use Rattle.std.proofs.Common.{◌≡◌, ℕ, ◌+◌, ◌*◌, ◌-◌, ◌<◌, ◌≤◌, ◌^◌, suc, zero, ◌&&◌, Bool, true, false, List, [], ◌∷◌, length, take, get_or, refl, rules, arith, ◌∙◌, ap, lit≤, lt_of_le_of_lt, cond}
 use Rattle.std.specs.Char.{is_ascii_digit, digit_value}
 use Rattle.std.specs.List.{list_all, prefix_len}
 use Rattle.std.specs.Str.Parse.{digits_value}

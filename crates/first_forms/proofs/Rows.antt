@@ -1,10 +1,10 @@
 -- One field more, and one line more.
-use Rattle.std.proofs.Common.{◌≡◌, ℕ, suc, zero, ◌+◌, ◌-◌, ◌≤◌, ◌<◌, ◌==◌, Bool, true, false, cond, List, [], ◌∷◌, ◌++◌, length, Option, Some, None, refl, sym, ap, ◌∙◌, subst, append_assoc, arith, nat_le, drop}
-use Rattle.std.specs.Option.{option_and_then, option_map}
+use Rattle.std.proofs.Common.{◌≡◌, ℕ, ◌≤◌, ◌==◌, List, [], ◌++◌, length, Option, Some, None, refl, drop}
+use Rattle.std.specs.Option.{option_map}
 use Rattle.std.proofs.Math.ListN.{drop_of_length-le}
 use Rattle.rows.specs.declared.value.Value.{Value}
 use Rattle.rows.specs.declared.plain.Column.{Column}
-use Rattle.first_forms.specs.Tables.{parts_behind, values_of, rows_of_lines, rows_within}
+use Rattle.first_forms.specs.Tables.{parts_behind, values_of}
 use Rattle.first_forms.proofs.Parts.{some_part}
 
 abbrev pub values_before : List Value → Option (List Value) → Option (List Value)

@@ -1,9 +1,8 @@
 -- The rows that a text writes are rows of the columns.
-use Rattle.std.proofs.Common.{◌≡◌, ℕ, ℤ, pos, neg_ℤ, nat_abs, suc, zero, ◌+◌, ◌≤◌, ◌<◌, Bool, true, false, cond, List, [], ◌∷◌, map, length, Option, Some, None, Result, Ok, Err, refl, sym, ap, ◌∙◌, subst, arith, nat_lt, nat_le, All, codes, ◌||◌}
-use Rattle.std.specs.Prelude.{⊤}
-use Rattle.std.specs.Option.{option_and_then, option_map}
+use Rattle.std.proofs.Common.{◌≡◌, ℕ, ℤ, pos, neg_ℤ, nat_abs, ◌≤◌, Bool, true, false, cond, List, [], ◌∷◌, map, length, Option, Some, None, Ok, Err, refl, sym, subst, arith, nat_lt, nat_le, codes, ◌||◌}
+use Rattle.std.specs.Option.{option_and_then}
 use Rattle.std.specs.Result.{result_ok}
-use Rattle.std.specs.List.{list_all, AllByRecursion, sum_by}
+use Rattle.std.specs.List.{AllByRecursion, sum_by}
 use Rattle.std.specs.Str.{is_utf8, bytes_eq}
 use Rattle.std.specs.Str.Parse.{starts_with_minus, without_leading_sign, digits_value}
 use Rattle.std.proofs.lemmas.Bool.Decides.{nat_tests}
@@ -14,12 +13,11 @@ use Rattle.rows.specs.declared.value.Value.TheVariants as value
 use Rattle.rows.specs.declared.plain.Column.{Column}
 use Rattle.rows.specs.declared.field.ColType.{ColType}
 use Rattle.rows.specs.declared.field.ColType.TheVariants as col
-use Rattle.rows.specs.declared.field.FieldErr.{FieldErr}
 use Rattle.rows.specs.declared.field.FieldErr.TheVariants as err
-use Rattle.rows.specs.Fields.{field_value, int4_of, is_integer_text, number_or_out, text_value, truth_value}
+use Rattle.rows.specs.Fields.{field_value, int4_of, is_integer_text, number_or_out}
 use Rattle.rel_meaning.specs.Layouts.{HasType, FitsColumns}
 use Rattle.rel_meaning.specs.Meaning.{layout_column, bound_at}
-use Rattle.first_forms.specs.Tables.{AreRowsOf, fields_of, if_fits, is_plain, lines_of, row_of, rows_of_lines, rows_behind_header, rows_within, rows_of_text, header_of, value_size, values_of}
+use Rattle.first_forms.specs.Tables.{AreRowsOf, fields_of, if_fits, lines_of, row_of, rows_of_lines, rows_behind_header, rows_within, header_of, value_size, values_of}
 
 found : {A B : Type 0} (o : Option A) (f : A → Option B) (y : B) → option_and_then f o ≡ Some y → (x : A) × (o ≡ Some x) × (f x ≡ Some y)
 found None f y e = cc

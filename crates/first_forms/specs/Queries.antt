@@ -1,6 +1,6 @@
 -- The script of one comparison over one relation.
 use Rattle.std.specs.Prelude.{◌≡◌, ◌<◌, ◌^◌, ℕ, ℤ, nat_abs, IsTrue, length, pos, Bool, true, false, ◌&&◌, nat_lt, nat_le, List, [], ◌∷◌, take, drop, slice_get, if◌then◌else◌, Option, Some, None, codes}
-use Rattle.std.specs.Option.{option_map, option_and_then, option_or}
+use Rattle.std.specs.Option.{option_map, option_or}
 use Rattle.std.specs.List.{position, prefix_len}
 use Rattle.std.specs.Char.{is_ascii_digit}
 use Rattle.std.specs.Str.{bytes_eq}

@@ -1,6 +1,6 @@
 use Rattle.std.proofs.Common.{◌≡◌, ◌-◌, ◌+◌, suc, ◌∙◌, sym, arith, Some, None, ◌∷◌, []}
 use Rattle.std.proofs.lemmas.Grind.{common_steps}
-use Rattle.first_forms.specs.Catalogs.{columns_from, others, end}
+use Rattle.first_forms.specs.Catalogs.{others, end}
 use Rattle.first_forms.proofs.Columns.{columns_none, columns_with, fronts, none_left}
 use Rattle.first_forms.proofs.catalog.columns.Goals as goal
 

@@ -1,7 +1,5 @@
-use Rattle.std.proofs.Common.{◌≡◌, ◌<◌, ◌*◌, ◌+◌, arith, refl, sym, ◌∙◌, pos}
-use Rattle.std.specs.Str.Parse.{digits_value}
-use Rattle.std.proofs.lemmas.Int.{ints}
-use Rattle.first_forms.proofs.Numbers.{partly, one_more, small}
+use Rattle.std.proofs.Common.{arith}
+use Rattle.first_forms.proofs.Numbers.{partly, one_more}
 use Rattle.first_forms.proofs.script.small_number.Goals as goal
 
 pub overflow_mul-number : goal.overflow_mul-number

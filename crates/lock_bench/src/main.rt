@@ -1,0 +1,113 @@
+//! `lock_bench [named|mutex] [THREADS] [TURNS]`: so many threads take so many turns each over one
+//! small value, under the named lock or under std's `Mutex`. It prints how many turns were found.
+#![tactic(auto)]
+
+ghost use Rattle.std.specs.Prelude.{◌≡◌, ◌<◌};
+ghost use Rattle.std.specs.List.{All};
+ghost use Rattle.run_lock.specs.Passes.{IsFree};
+
+mod tally;
+
+use run_lock::{Pass, RunLock};
+use std::alloc::{AllocError, Global};
+use std::sync::{Mutex, Wait};
+use std::thread::Threads;
+use std::{env, io, thread};
+use tally::Tally;
+
+fn take_turns<R: Wait>(rt: &R, lock: &RunLock<Tally>, pass: &mut Pass<Tally>, turns: u64)
+    requires { IsFree lock.now pass.old }
+    ensures { IsFree lock.now pass.new }
+{
+    for _turn in 0..turns {
+        let mut held = lock.take(rt, pass);
+        let tally = held.value();
+        tally.count();
+        lock.put(pass, held);
+    }
+}
+
+fn passes(
+    alloc: Global,
+    lock: &RunLock<Tally>,
+    pass: &mut Pass<Tally>,
+    threads: usize,
+) -> Vec<Pass<Tally>>
+    requires { IsFree lock.now pass.old }
+    ensures team { All (λ p. IsFree lock.now p) result.items }
+    ensures pass { IsFree lock.now pass.new }
+{
+    let mut team = Vec::new(alloc);
+    for _thread in 0..threads {
+        let Ok(other) = pass.split(lock) else {
+            break;
+        };
+        if team.push(other).is_err() {
+            break;
+        }
+    }
+    team
+}
+
+fn under_named_lock<R: Threads + Wait + Sync>(
+    rt: &R,
+    alloc: Global,
+    threads: usize,
+    turns: u64,
+) -> Result<u64, AllocError> {
+    let (lock, mut pass) = match RunLock::new(alloc, 0, Tally::new()) {
+        Ok(made) => made,
+        Err(_) => return Err(AllocError),
+    };
+    let mut team = passes(alloc, &lock, &mut pass, threads);
+    thread::for_each_mut(
+        rt,
+        team.as_mut_slice(),
+        threads.max(1),
+        &|_, pass| { take_turns(rt, &lock, pass, turns) },
+    );
+    Ok(lock.close(rt, pass).turns)
+}
+
+fn take_turns_in_mutex<R: Wait>(rt: &R, mutex: &Mutex<Tally>, turns: u64) {
+    for _turn in 0..turns {
+        mutex.lock(rt).count();
+    }
+}
+
+fn under_mutex<R: Threads + Wait + Sync>(
+    rt: &R,
+    alloc: Global,
+    threads: usize,
+    turns: u64,
+) -> Result<u64, AllocError> {
+    let mutex = Mutex::new(Tally::new());
+    let mut team = vec![in alloc; (); threads]?;
+    thread::for_each_mut(
+        rt,
+        team.as_mut_slice(),
+        threads.max(1),
+        &|_, _| { take_turns_in_mutex(rt, &mutex, turns) },
+    );
+    Ok(mutex.into_inner().turns)
+}
+
+fn number_in(words: &[String], place: usize, otherwise: u32) -> u32 {
+    match words.get(place) {
+        Some(word) => word.parse().unwrap_or(otherwise),
+        None => otherwise,
+    }
+}
+
+fn main(rt: HostRuntime) -> io::Result<()> {
+    let words: Vec<String> = env::args(&rt)?.collect(rt.alloc())?;
+    let mutex = words.get(1).is_some_and(|word| word.as_str() == "mutex");
+    let threads = number_in(words.as_slice(), 2, 4) as usize;
+    let turns = u64::from(number_in(words.as_slice(), 3, 10000));
+    let found = if mutex {
+        under_mutex(&rt, rt.alloc(), threads, turns)?
+    } else {
+        under_named_lock(&rt, rt.alloc(), threads, turns)?
+    };
+    println!(rt; "{found} turns")
+}

@@ -1,0 +1,5 @@
+pub mod Carries
+pub mod Helds
+pub mod Lending
+pub mod Passes
+pub mod Turns
