@@ -1,0 +1,16 @@
+pub mod Free
+pub mod Moves
+pub mod Kept
+pub mod Answers
+pub mod Full
+pub mod Outputs
+pub mod Release
+pub mod Steps
+pub mod Filled
+pub mod ReleaseLaws
+pub mod OutputsLaws
+pub mod History
+pub mod Calls
+pub mod Told
+pub mod HistoryLaws
+pub mod Room

@@ -1,0 +1,14 @@
+pub mod Scan
+pub mod Table
+pub mod Stride
+pub mod Places
+pub mod Marks
+pub mod TableKept
+pub mod Counted
+pub mod StrideKept
+pub mod Counts
+pub mod CountLaws
+pub mod Owners
+pub mod PageOwner
+pub mod PageOwnerLaws
+pub mod Front

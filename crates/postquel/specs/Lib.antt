@@ -1,0 +1,16 @@
+pub mod Class
+pub mod Level
+pub mod Limits
+pub mod Input
+pub mod View
+pub mod Loop
+pub mod Grammar
+pub mod Program
+pub mod Script
+pub mod Start
+pub mod Syntax
+pub mod Parts
+pub mod Statement
+pub mod Reading
+pub mod Print
+pub mod Onto

@@ -1,0 +1,4 @@
+pub mod Share
+pub mod ShareLaws
+pub mod EntryOwner
+pub mod EntryOwnerLaws
