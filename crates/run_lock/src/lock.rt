@@ -11,6 +11,7 @@ use std::alloc::{AllocError, AllocFailed, Global};
 use std::hint::spin_loop;
 use std::snapshot::Snapshot;
 use std::sync::Wait;
+use std::thread::Parker;
 
 /// The word that is the length of the log, or `OUT`.
 const TURN: usize = 0;
@@ -249,7 +250,11 @@ impl<F: Named> RunLock<F> {
         let Place { seat, seen: _ } = place;
         let mut closed = table.close_with(seat);
         if closed.word(TURN) == OUT {
-            for _ in rt.forever() {}
+            // Nobody can give the turn any more.
+            let parker = Parker::new();
+            for _ in rt.forever() {
+                parker.park(rt);
+            }
             unreachable!()
         }
         let Some(value) = closed.take(0) else {
