@@ -3,7 +3,7 @@
 
 Run it at the top of the repository, once `rt run` in crates/lock_bench has proved and built the
 program: bench/run_lock/measure.py [TURNS]. Rust's own mutex is measured where rustc is there.
-Each figure is the best of five runs over TURNS turns in all, 4 million if it isn't said.
+Each line is the middle one of five runs over TURNS turns in all, 20 million if it isn't said.
 """
 import os
 import shutil
@@ -29,14 +29,14 @@ def run(words):
 
 def measure(program, kind, threads, turns):
     each = turns // threads
-    best = min(run([program, kind, str(threads), str(each)]) for _ in range(RUNS))
-    passed, worked, text = best
+    runs = sorted(run([program, kind, str(threads), str(each)]) for _ in range(RUNS))
+    passed, worked, text = runs[RUNS // 2]
     assert text == f"{each * threads} turns\n", text
     print(f"| {kind} | {threads} | {each * threads / passed / 1e6:.1f} | {worked / (each * threads) * 1e9:.0f} |", flush=True)
 
 
 def main():
-    turns = int(sys.argv[1]) if len(sys.argv) > 1 else 4_000_000
+    turns = int(sys.argv[1]) if len(sys.argv) > 1 else 20_000_000
     print("| lock | threads | million turns a second | processor ns a turn |\n|---|---|---|---|")
     with tempfile.TemporaryDirectory() as folder:
         kinds = [(PROGRAM, "named"), (PROGRAM, "mutex")]
