@@ -38,6 +38,7 @@ impl MemDrive {
         ensures pages { IfOk result (λ drive. drive_pages drive ≡ Some (replicate pages (replicate 8192 0))) }
         ensures size { IfOk result (λ drive. drive_size drive ≡ pages) }
         ensures count { IfOk result (λ drive. drive_faults drive ≡ 0) }
+        ensures fails { IfOk result (λ drive. (drive.read_fails ≡ read_fails) × (drive.write_fails ≡ write_fails)) }
     {
         Ok(MemDrive {
             pages: zeros(alloc, pages)?,

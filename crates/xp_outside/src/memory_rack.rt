@@ -25,7 +25,9 @@ impl MemRack {
         read_fails: NumberList,
         write_fails: NumberList,
     ) -> MemRack
-        ensures { rack_faults result ≡ 0 }
+        ensures count { rack_faults result ≡ 0 }
+        ensures pages { result.pages ≡ pages }
+        ensures fails { (result.mount_fails ≡ mount_fails) × (result.read_fails ≡ read_fails) × (result.write_fails ≡ write_fails) }
     {
         MemRack {
             pages,

@@ -50,6 +50,7 @@ impl WildRack {
     /// A rack whose drives have `pages` pages each. Every read takes the exclusive or of `mask` with the byte at `byte`.
     pub fn new(pages: u32, byte: u32, mask: u8) -> WildRack
         requires { byte < 8192 }
+        ensures { (result.pages ≡ pages) × (result.byte ≡ byte) × (result.mask ≡ mask) }
     {
         WildRack { pages, byte, mask }
     }
