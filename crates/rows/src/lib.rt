@@ -1,14 +1,17 @@
 //! The values of a relation, their order, and their spelling in a file.
 #![tactic(auto)]
 
+mod encoding;
 mod field;
 mod order;
 mod plain;
+mod row_view;
 #[cfg(test)]
 mod tests;
 mod text;
 mod value;
 
+pub use encoding::{encode_row, row_size};
 pub use field::{ColType, FieldErr, field_text, read_field};
 pub use lists::Sequence;
 pub use order::{SortKey, SortKeyList, arrange_rows, compare, row_order};
@@ -17,6 +20,7 @@ pub use plain::{
     KeyEntry, KeyEntryList, KeyIndex, KeyIndexList, KeyPair, KeyPairList, Layout, LayoutColumn,
     LayoutColumnList, LayoutPart, Machine, Relation, Step, StepList,
 };
+pub use row_view::{RowView, ValueView, decode_row};
 pub use text::Text;
 pub use value::Value;
 

@@ -1,6 +1,6 @@
 use crate::{
-    ColType, FieldErr, Row, SortKey, Text, Value, arrange_rows, compare, field_text, read_field,
-    row_order,
+    ColType, Column, FieldErr, Row, RowView, SortKey, Text, Value, arrange_rows, compare,
+    decode_row, encode_row, field_text, read_field, row_order, row_size,
 };
 use lists::{Duplicate, Sequence};
 use std::alloc::{AllocError, Global};
@@ -69,5 +69,48 @@ fn rows_are_arranged_by_keys_and_then_by_all_columns(rt: HostRuntime) -> Result<
         let row = row(alloc, name.as_slice(), number.duplicate(alloc)?)?;
         assert_eq!(rt; row_order(&row, found, &[]), Ordering::Equal);
     }
+    Ok(())
+}
+
+fn column(alloc: Global, col_type: ColType, nullable: bool) -> Column {
+    Column {
+        name: Text::from_vec(Vec::new(alloc)),
+        col_type,
+        nullable,
+    }
+}
+
+#[test]
+fn rows_are_read_from_their_bytes_and_written_again(rt: HostRuntime) -> Result<(), Fail> {
+    let alloc = rt.alloc();
+    let columns = Sequence::from_vec(vec![in alloc;
+        column(alloc, ColType::Text, false),
+        column(alloc, ColType::Int4, true),
+        column(alloc, ColType::Int4, true),
+    ]?);
+    let rows: [(&[u8], &[u8]); 2] = [
+        (b"\x00\x00\x01x\x00\x00\x00\x01\x00\x00\x00\x02", b"x12"),
+        (b"\x01\x00\x01y\x00\x00\x00\x02", b"y2"),
+    ];
+    for (bytes, fields) in rows {
+        let Some(row) = decode_row(alloc, bytes, &columns)? else {
+            return Err(Fail::from(AllocError));
+        };
+        assert_eq!(rt; row_size(&row, &columns) as usize, bytes.len());
+        assert_eq!(rt; encode_row(alloc, &row, &columns)?.as_slice(), bytes);
+        let mut spelled = Vec::new(alloc);
+        for value in row.items() {
+            spelled.extend_from_slice(field_text(alloc, value)?.as_slice())?;
+        }
+        assert_eq!(rt; spelled.as_slice(), fields);
+        let Some(view) = RowView::read(bytes, &columns) else {
+            return Err(Fail::from(AllocError));
+        };
+        let seen = view.field(1).to_value(alloc)?;
+        assert_eq!(rt; compare(&seen, &row.items()[1]), Ordering::Equal);
+        assert_eq!(rt; row_order(&view.to_row(alloc)?, &row, &[]), Ordering::Equal);
+    }
+    let not_a_row = b"\x04\x00\x01y\x00\x00\x00\x01\x00\x00\x00\x02".as_slice();
+    assert!(rt; decode_row(alloc, not_a_row, &columns)?.is_none());
     Ok(())
 }
