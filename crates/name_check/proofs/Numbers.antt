@@ -1,5 +1,5 @@
 -- The numbers of a script that was read from a text are those of its tokens, which are below 2^63.
-use Rattle.std.proofs.Common.{◌≡◌, ◌≤◌, ◌^◌, ◌==◌, ◌-◌, ◌&&◌, ℕ, zero, suc, ◌+◌, pos, nat_abs, nat_le, Bool, true, false, List, [], ◌∷◌, ◌++◌, Option, Some, None, Result, Ok, Err, All, refl, ap, subst, arith, if◌then◌else◌, take, slice_index}
+use Rattle.std.proofs.Common.{◌≡◌, ◌≤◌, ◌^◌, ◌==◌, ◌-◌, ◌&&◌, ℕ, zero, suc, ◌+◌, pos, nat_abs, nat_le, Bool, true, false, List, [], ◌∷◌, ◌++◌, Option, Some, None, Result, Ok, Err, IfOk, All, refl, ap, subst, arith, if◌then◌else◌, take, slice_index}
 use Rattle.std.specs.Str.{is_utf8}
 use Rattle.std.proofs.lemmas.Bool.Decides.{nat_tests}
 use Rattle.std.proofs.lemmas.List.Elements.{All-nil, All-cons}
@@ -17,8 +17,10 @@ use Rattle.postquel.specs.Grammar.{number_of}
 use Rattle.postquel.specs.Syntax as by
 use Rattle.postquel.specs.Syntax.{Derives}
 use Rattle.postquel.specs.Parts.{OrNone, absent, present, More, none, more, Listed, listed}
-use Rattle.postquel.specs.Program.{Program}
-use Rattle.postquel.specs.Reading.{IsLexed, IsReading}
+use Rattle.postquel.specs.Program.{Parts, Program, program_of}
+use Rattle.postquel.specs.Reading.{IsLexed, IsReading, Tells}
+use Rattle.std.specs.Result.{result_map_both}
+use Rattle.postquel_tokens.specs.declared.fault.TextErr.{TextErr}
 use Rattle.postquel.specs.Statement as rule
 use Rattle.postquel.specs.Statement.{IsTarget, IsTest, IsStatement, AreStatements, IsScript}
 use Rattle.name_check.specs.Faults.{NumbersFit}
@@ -157,3 +159,8 @@ pub read_numbers : ReadNumbers
 read_numbers all script lexed read =
     let fit : AllFit all = subst TokensFit lexed.gives (lex_fits lexed.text) in
     program read.is (front read.text.tokens (read.text.end ∷ []) (subst AllFit read.text.parts fit))
+
+-- what `parse` answers, where it answers a script
+pub parsed_fits : (all : List Token) (r : Result Parts TextErr) → IsLexed all → Tells all (result_map_both program_of (λ e. e) r) → IfOk r (λ script. All HasNumbers (program_of script).sentences)
+parsed_fits all (Ok script) lexed read = read_numbers all (program_of script) lexed read
+parsed_fits all (Err e) lexed read = tt

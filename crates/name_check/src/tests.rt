@@ -1,11 +1,12 @@
 ghost use Rattle.std.specs.Prelude.{IfOk, All};
 ghost use Rattle.postquel.specs.Program.{program_of};
+ghost use Rattle.postquel.specs.Reading.{IsLexed};
 ghost use Rattle.name_check.specs.Sentences.{HasNumbers};
 
 use crate::{has_fold, has_into, machine_of, numbers_fit, resolve};
 use lists::Sequence;
 use postquel::{Script, lex, parse};
-use postquel_tokens::TextErr;
+use postquel_tokens::{TextErr, TokenList};
 use rows::{Catalog, ColType, Column, Relation, Text};
 use std::alloc::Global;
 use std::test::Fail;
@@ -29,7 +30,7 @@ retrieve into K (n = A.x * A.x) \\g retrieve (m = K.n + K.n) \\g -> TooWide(9223
 retrieve (A.x, x = 1) \\g -> DoubleTarget at 1:16
 retrieve (A.x, x = C.y) \\g -> NoRange at 1:20
 retrieve into K (a=1, b=1, c=1, d=1, e=1, f=1, g=1, h=1, i=1, j=1, k=1, l=1, m=1, n=1, o=1, p=1, q=1, r=1, s=1, t=1, u=1, v=1, w=1, x=1, y=1, z=1, A=1, B=1, C=1, D=1, E=1, F=1, G=1) \\g -> TooManyColumns at 1:178
-retrieve (A.x) where A.b sort by x, y \\g -> NoSortTarget at 1:32
+retrieve (A.x) where A.b sort by x, y \\g -> NoSortTarget at 1:37
 machine 64 after 1, 65 after 1 \\g -> BadDegree at 1:21
 machine 2 after 5, 3 after 5 \\g -> BadStep at 1:28
 machine 1 after 1001 \\g retrieve (C.x) \\g -> BadStep at 1:17
@@ -66,6 +67,14 @@ fn catalog(alloc: Global) -> Result<Catalog, TextErr> {
     Ok(Sequence::from_vec(relations))
 }
 
+fn parsed(alloc: Global, tokens: &TokenList) -> Result<Script, TextErr>
+    requires { IsLexed tokens.now }
+    ensures { IfOk result (λ script. All HasNumbers (program_of script).sentences) }
+{
+    numbers_fit();
+    parse(alloc, tokens)
+}
+
 fn read(alloc: Global, text: &[u8]) -> Result<Script, TextErr>
     ensures { IfOk result (λ script. All HasNumbers (program_of script).sentences) }
 {
@@ -73,8 +82,7 @@ fn read(alloc: Global, text: &[u8]) -> Result<Script, TextErr>
         return Err(TextErr::NoMemory);
     }
     let tokens = lex(alloc, text)?;
-    numbers_fit();
-    parse(alloc, &tokens)
+    parsed(alloc, &tokens)
 }
 
 fn answer(alloc: Global, text: &[u8]) -> Result<String, TextErr> {
