@@ -1,6 +1,6 @@
 -- The check of an expression finds its first fault, or what it means.
-use Rattle.std.proofs.Common.{◌≡◌, ◌<◌, ◌≤◌, ℕ, suc, zero, ◌+◌, nat_abs, nat_le, Bool, true, false, List, [], ◌∷◌, ◌++◌, Option, Some, None, Result, Ok, Err, length, nat_lt, refl, sym, ap, ◌∙◌, subst, arith, rules, append_assoc, slice_get, if◌then◌else◌}
-use Rattle.std.specs.Option.{option_map, option_or, unwrap_or}
+use Rattle.std.proofs.Common.{◌≡◌, ◌<◌, ◌≤◌, ℕ, nat_abs, nat_le, Bool, true, List, ◌∷◌, ◌++◌, Option, Some, None, Result, Ok, Err, length, nat_lt, refl, sym, ap, ◌∙◌, subst, arith, append_assoc, slice_get, if◌then◌else◌}
+use Rattle.std.specs.Option.{option_or, unwrap_or}
 use Rattle.std.specs.Result.{result_err}
 use Rattle.std.proofs.lemmas.Bool.Decides.{nat_tests}
 use Rattle.postquel_tokens.specs.declared.fault.Spot.{Spot}
@@ -18,13 +18,13 @@ use Rattle.rel_meaning.specs.Typing.{type_of, integer_within}
 use Rattle.name_check.specs.declared.heading.Heading.{Heading}
 use Rattle.name_check.specs.declared.heading.HeadColumn.{HeadColumn}
 use Rattle.name_check.specs.declared.checking.RangeRef.{RangeRef}
-use Rattle.name_check.specs.Places.{place_by, same}
+use Rattle.name_check.specs.Places.{same}
 use Rattle.name_check.specs.Types.{at, before, between, integer}
 use Rattle.name_check.specs.Built.{built_before, built_between}
 use Rattle.name_check.specs.Checked as step
 use Rattle.name_check.specs.Checked.{Meant, checked, and_then, with_vars, with_type, meant_before, meant_between}
-use Rattle.name_check.specs.Faults.{var_named, column_named, added, grown, names_in, range_fault, range_fault_at, column_fault, columns_at, columns_of, var_columns, column_type, fault_in, meaning_in, type_in, before_fault, between_fault, NumbersFit}
-use Rattle.name_check.specs.Agreed.{Fits, Grew, Agrees, RangeFits, RangeAgrees}
+use Rattle.name_check.specs.Faults.{var_named, column_named, added, grown, names_in, range_fault, range_fault_at, column_fault, columns_at, columns_of, var_columns, column_type, fault_in, type_in, before_fault, between_fault, NumbersFit}
+use Rattle.name_check.specs.Agreed.{Fits, Grew, Agrees, RangeAgrees}
 use Rattle.name_check.proofs.Scope.{grown_append, place_item}
 use Rattle.name_check.proofs.Typed.{before_typed, between_typed}
 use Rattle.name_check.proofs.Ranged.{range_agrees}

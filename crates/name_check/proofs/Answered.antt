@@ -1,5 +1,5 @@
 -- A query that may be asked of the relations of a catalogue may be asked of their tables.
-use Rattle.std.proofs.Common.{◌≡◌, ◌<◌, ◌≤◌, ◌^◌, ℕ, ◌+◌, Bool, true, false, ◌&&◌, ◌||◌, is_some, List, [], ◌∷◌, ◌++◌, map, length, Option, Some, None, IsSome, IfSome, IfOk, OnOk, IsTrue, Result, Ok, Err, All, refl, sym, ap, ◌∙◌, subst, arith, append-nil, slice_get, if◌then◌else◌}
+use Rattle.std.proofs.Common.{◌≡◌, ◌<◌, ℕ, ◌+◌, Bool, true, false, ◌&&◌, ◌||◌, is_some, List, [], ◌∷◌, ◌++◌, map, length, Option, Some, None, IsSome, IfSome, IfOk, OnOk, IsTrue, Result, Ok, Err, All, refl, sym, ap, ◌∙◌, subst, arith, append-nil, slice_get, if◌then◌else◌}
 use Rattle.std.specs.List.{list_any}
 use Rattle.std.specs.Option.{option_map}
 use Rattle.std.proofs.lemmas.List.Elements.{All-nil, All-cons, All-head, All-tail, All-weaker}

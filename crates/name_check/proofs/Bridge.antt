@@ -1,14 +1,12 @@
 -- A column's type by the layout of the range variables.
-use Rattle.std.proofs.Common.{◌≡◌, ◌<◌, ◌≤◌, ℕ, zero, suc, ◌+◌, ◌==◌, Bool, true, false, nat_lt, List, [], ◌∷◌, ◌++◌, map, length, Option, Some, None, refl, sym, ap, ◌∙◌, subst, arith, rules, if◌then◌else◌, slice_get}
+use Rattle.std.proofs.Common.{◌≡◌, ◌<◌, ℕ, zero, suc, ◌+◌, ◌==◌, Bool, true, false, nat_lt, List, [], ◌∷◌, ◌++◌, map, length, Option, Some, None, refl, ap, ◌∙◌, arith, if◌then◌else◌, slice_get}
 use Rattle.std.specs.Option.{option_map, option_and_then}
 use Rattle.std.proofs.lemmas.Bool.Decides.{nat_tests}
 use Rattle.rel_meaning.specs.declared.query.Var.{Var}
-use Rattle.rows.specs.declared.plain.LayoutColumn.{LayoutColumn}
-use Rattle.rows.specs.declared.plain.LayoutPart.{LayoutPart}
 use Rattle.rel_meaning.specs.Layouts as layouts
 use Rattle.name_check.specs.declared.heading.Heading.{Heading}
 use Rattle.name_check.specs.declared.heading.HeadColumn.{HeadColumn}
-use Rattle.name_check.specs.Faults.{var_columns, columns_of, column_type}
+use Rattle.name_check.specs.Faults.{var_columns, column_type}
 use Rattle.name_check.specs.Bridge.{layouts_of, layout_from}
 
 front : {A : Type 0} (xs ys : List A) (k : ℕ) (b : Bool) → nat_lt k (length xs) ≡ b → option_and_then (λ p. slice_get (xs ++ ys) p) (if b then Some k else None) ≡ slice_get xs k

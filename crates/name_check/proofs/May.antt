@@ -1,10 +1,8 @@
 -- A statement without a fault is a query that may be asked.
-use Rattle.std.proofs.Common.{◌≡◌, ◌<◌, ◌≤◌, ℕ, suc, ◌+◌, Bool, true, false, nat_lt, ◌||◌, ◌&&◌, not, All, List, [], ◌∷◌, ◌++◌, map, length, Option, Some, None, is_some, IsSome, IfSome, IsTrue, Result, Ok, Err, refl, sym, ap, ◌∙◌, subst, arith, rules, append_assoc, append-nil, length-append, if◌then◌else◌, slice_get}
+use Rattle.std.proofs.Common.{◌≡◌, ◌<◌, ℕ, ◌+◌, Bool, true, false, nat_lt, ◌||◌, All, List, [], ◌∷◌, ◌++◌, map, length, Option, Some, None, is_some, IsSome, IfSome, IsTrue, Ok, refl, sym, ap, ◌∙◌, subst, arith, append_assoc, append-nil, length-append, if◌then◌else◌, slice_get}
 use Rattle.std.specs.List.{flat_map, list_any}
 use Rattle.std.specs.Option.{option_map, option_or, unwrap_or}
-use Rattle.std.proofs.lemmas.Bool.Decides.{nat_tests}
 use Rattle.std.proofs.lemmas.List.Elements.{All-nil, All-cons, All-append, All-head, All-tail, All-weaker}
-use Rattle.postquel_tokens.specs.declared.form.Ident.{Ident}
 use Rattle.postquel_tokens.specs.declared.form.RangeForm.{RangeForm}
 use Rattle.postquel_tokens.specs.declared.form.KeyForm.{KeyForm}
 use Rattle.postquel_tokens.specs.declared.fault.What.TheVariants as what
@@ -17,14 +15,14 @@ use Rattle.rel_meaning.specs.Expression.{Expression, Output, Question}
 use Rattle.rel_meaning.specs.Typing.{type_of, is_truth}
 use Rattle.name_check.specs.declared.heading.Heading.{Heading}
 use Rattle.name_check.specs.declared.heading.HeadColumn.{HeadColumn}
-use Rattle.name_check.specs.Places.{place_by, same}
+use Rattle.name_check.specs.Places.{same}
 use Rattle.name_check.specs.Types.{at}
-use Rattle.name_check.specs.Faults.{var_named, heading_named, column_named, columns_of, column_type, grown, names_in, range_fault, fault_in, meaning_in, type_in, NumbersFit}
-use Rattle.name_check.specs.Sentences.{Shown, shown, all_shown, var_of, vars_of, wish_names, test_names, wish_shown, output_by, is_fold, has_fold, plain_outputs, fold_outputs, inner_fault, sum_fault, into_fault, range_form_fault, ranges_fault, columns_fault, wishes_fault, wish_spot, head_of, test_fault, keys_fault, head_in, sentence_fault, headings_after, script_fault, questions_in, queries_of, or_fault, question_in, sort_key, HasNumbers, WishNumbers, TestNumbers}
+use Rattle.name_check.specs.Faults.{var_named, heading_named, column_named, columns_of, column_type, grown, fault_in, meaning_in, type_in, NumbersFit}
+use Rattle.name_check.specs.Sentences.{shown, all_shown, var_of, vars_of, wish_names, test_names, wish_shown, output_by, is_fold, has_fold, plain_outputs, fold_outputs, inner_fault, sum_fault, into_fault, range_form_fault, ranges_fault, columns_fault, wishes_fault, wish_spot, head_of, test_fault, keys_fault, head_in, sentence_fault, headings_after, script_fault, questions_in, queries_of, or_fault, question_in, sort_key, HasNumbers, WishNumbers}
 use Rattle.name_check.specs.Resolved.{MayAsk, MayAskEach}
 use Rattle.name_check.proofs.Places.{place_within}
 use Rattle.name_check.proofs.Any.{length_map}
-use Rattle.name_check.proofs.Sound.{both_none, HasType, typed, Low, low_of, names_low, Known, Bounded, grown_bounded}
+use Rattle.name_check.proofs.Sound.{both_none, typed, Low, low_of, names_low, Known, Bounded, grown_bounded}
 use Rattle.name_check.proofs.Resolved.{ranges_few}
 
 -- targets

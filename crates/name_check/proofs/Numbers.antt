@@ -1,5 +1,5 @@
 -- The numbers of a script that was read from a text are those of its tokens, which are below 2^63.
-use Rattle.std.proofs.Common.{◌≡◌, ◌≤◌, ◌^◌, ◌==◌, ◌-◌, ◌&&◌, ℕ, zero, suc, ◌+◌, pos, nat_abs, nat_le, Bool, true, false, List, [], ◌∷◌, ◌++◌, Option, Some, None, Result, Ok, Err, IfOk, All, refl, ap, subst, arith, if◌then◌else◌, take, slice_index}
+use Rattle.std.proofs.Common.{◌≡◌, ◌≤◌, ◌^◌, ◌==◌, ◌-◌, ◌&&◌, ℕ, zero, suc, pos, nat_abs, nat_le, Bool, true, false, List, [], ◌∷◌, ◌++◌, Option, None, Result, Ok, Err, IfOk, All, refl, subst, arith, if◌then◌else◌, take, slice_index}
 use Rattle.std.specs.Str.{is_utf8}
 use Rattle.std.proofs.lemmas.Bool.Decides.{nat_tests}
 use Rattle.std.proofs.lemmas.List.Elements.{All-nil, All-cons}
@@ -18,7 +18,7 @@ use Rattle.postquel.specs.Syntax as by
 use Rattle.postquel.specs.Syntax.{Derives}
 use Rattle.postquel.specs.Parts.{OrNone, absent, present, More, none, more, Listed, listed}
 use Rattle.postquel.specs.Program.{Parts, Program, program_of}
-use Rattle.postquel.specs.Reading.{IsLexed, IsReading, Tells}
+use Rattle.postquel.specs.Reading.{IsLexed, Tells}
 use Rattle.std.specs.Result.{result_map_both}
 use Rattle.postquel_tokens.specs.declared.fault.TextErr.{TextErr}
 use Rattle.postquel.specs.Statement as rule

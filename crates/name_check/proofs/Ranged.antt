@@ -1,15 +1,15 @@
 -- A range variable as the check finds it, and in the whole statement.
-use Rattle.std.proofs.Common.{◌≡◌, ◌<◌, ◌≤◌, ℕ, suc, zero, ◌+◌, Bool, true, false, cond, not, List, [], ◌∷◌, ◌++◌, Option, Some, None, Result, Ok, Err, length, nat_lt, refl, sym, ap, ◌∙◌, subst, arith, rules, IfSome, append_assoc, slice_get, if◌then◌else◌, length-append}
+use Rattle.std.proofs.Common.{◌≡◌, ◌<◌, ◌≤◌, ℕ, Bool, true, false, List, [], ◌∷◌, ◌++◌, Option, Some, None, Ok, Err, length, nat_lt, refl, sym, ap, ◌∙◌, subst, arith, IfSome, slice_get, if◌then◌else◌, length-append}
 use Rattle.std.proofs.lemmas.Bool.Decides.{nat_tests}
 use Rattle.postquel_tokens.specs.declared.form.Ident.{Ident}
 use Rattle.postquel_tokens.specs.declared.fault.What.TheVariants as what
 use Rattle.rel_meaning.specs.declared.query.Var.{Var}
 use Rattle.name_check.specs.declared.heading.Heading.{Heading}
-use Rattle.name_check.specs.Places.{place_by, same}
+use Rattle.name_check.specs.Places.{same}
 use Rattle.name_check.specs.Types.{at}
 use Rattle.name_check.specs.Checked.{range, range_by, range_added, relation_at}
-use Rattle.name_check.specs.Faults.{var_named, heading_named, added, added_over, added_unless, grown, range_fault, range_fault_at}
-use Rattle.name_check.specs.Agreed.{RangeFits, Grew, RangeAgrees}
+use Rattle.name_check.specs.Faults.{var_named, heading_named, added, added_over, added_unless, grown, range_fault_at}
+use Rattle.name_check.specs.Agreed.{RangeAgrees}
 use Rattle.name_check.proofs.Places.{place_within}
 use Rattle.name_check.proofs.Scope.{same_self, place_last, grown_keeps, grown_lacks, grown_item, item_last, place_item}
 

@@ -1,5 +1,5 @@
 -- The checks of a script give its queries or its first fault.
-use Rattle.std.proofs.Common.{◌≡◌, ◌<◌, ◌≤◌, ℕ, Bool, true, false, nat_lt, All, List, [], ◌∷◌, ◌++◌, map, length, Option, Some, None, is_some, Result, Ok, Err, refl, sym, ap, ◌∙◌, subst, arith, rules, append_assoc, append-nil, length-append, if◌then◌else◌}
+use Rattle.std.proofs.Common.{◌≡◌, ◌<◌, ◌≤◌, ℕ, Bool, true, false, nat_lt, All, List, [], ◌∷◌, ◌++◌, map, length, Option, Some, None, is_some, Result, Ok, Err, refl, sym, ap, ◌∙◌, arith, append_assoc, append-nil, length-append, if◌then◌else◌}
 use Rattle.std.specs.List.{flat_map}
 use Rattle.std.specs.Option.{option_map, option_or, unwrap_or}
 use Rattle.std.proofs.lemmas.Bool.Decides.{nat_tests}
@@ -10,18 +10,17 @@ use Rattle.postquel_tokens.specs.declared.fault.TextErr.{TextErr}
 use Rattle.postquel_tokens.specs.declared.form.RangeForm.{RangeForm}
 use Rattle.postquel_tokens.specs.declared.form.KeyForm.{KeyForm}
 use Rattle.postquel_tokens.specs.declared.form.IntoForm.{IntoForm}
-use Rattle.postquel_tokens.specs.Forms.{Sentence, Wish}
+use Rattle.postquel_tokens.specs.Forms.{Sentence}
 use Rattle.rel_meaning.specs.declared.query.Var.{Var}
 use Rattle.rel_meaning.specs.Expression.{Expression, Question}
 use Rattle.name_check.specs.declared.heading.Heading.{Heading}
 use Rattle.name_check.specs.declared.heading.HeadColumn.{HeadColumn}
 use Rattle.name_check.specs.Types.{at}
 use Rattle.name_check.specs.Checked.{and_then, with_vars}
-use Rattle.name_check.specs.Faults.{var_named, heading_named, column_named, grown, meaning_in}
-use Rattle.name_check.specs.Sentences.{var_of, vars_of, wish_names, test_names, has_fold, into_fault, range_form_fault, ranges_fault, wishes_fault, test_fault, keys_fault, sort_key, head_in, sentence_fault, question_in, kept_heading, headings_after, script_fault, questions_in, queries_of, or_fault, HasNumbers, WishNumbers}
-use Rattle.name_check.specs.Steps.{bind, unless, result_of, Chosen, Asked, found_of, ranges_checked, wishes_checked, test_checked, key_by, key_checked, keys_checked, to_end, sentence_checked, kept_by, script_checked}
-use Rattle.name_check.specs.Agreed.{Grew}
-use Rattle.name_check.specs.Whole.{WishesFit, WishesAgree, with_wishes, TestFits, TestAgrees, asked}
+use Rattle.name_check.specs.Faults.{column_named, grown, meaning_in}
+use Rattle.name_check.specs.Sentences.{var_of, vars_of, wish_names, test_names, has_fold, into_fault, range_form_fault, ranges_fault, wishes_fault, test_fault, keys_fault, sort_key, head_in, sentence_fault, question_in, kept_heading, headings_after, script_fault, questions_in, queries_of, or_fault, HasNumbers}
+use Rattle.name_check.specs.Steps.{bind, unless, result_of, Chosen, found_of, ranges_checked, wishes_checked, test_checked, key_by, keys_checked, to_end, sentence_checked, kept_by, script_checked}
+use Rattle.name_check.specs.Whole.{WishesAgree, with_wishes, TestAgrees, asked}
 use Rattle.name_check.proofs.Scope.{grown_append}
 use Rattle.name_check.proofs.Wishes.{wishes_agree, test_agrees}
 

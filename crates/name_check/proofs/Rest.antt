@@ -1,5 +1,5 @@
 -- A list from a place on.
-use Rattle.std.proofs.Common.{◌≡◌, ◌≤◌, ℕ, zero, suc, ◌+◌, Bool, true, false, ◌||◌, List, [], ◌∷◌, Option, Some, None, drop, length, slice_get, refl, ap, ◌∙◌, arith}
+use Rattle.std.proofs.Common.{◌≡◌, ◌≤◌, ℕ, zero, suc, ◌+◌, Bool, true, false, ◌||◌, List, [], ◌∷◌, Some, drop, length, slice_get, refl, ap, ◌∙◌, arith}
 use Rattle.std.specs.List.{list_any}
 
 some_same : {A : Type 0} (a b : A) → Some a ≡ Some b → a ≡ b

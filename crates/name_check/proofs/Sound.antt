@@ -1,6 +1,6 @@
 -- What has no fault has a type.
-use Rattle.std.proofs.Common.{◌≡◌, ◌<◌, ◌≤◌, ℕ, nat_abs, nat_le, nat_lt, Bool, true, false, List, [], ◌∷◌, ◌++◌, map, length, Option, Some, None, Result, Ok, Err, refl, sym, ap, ◌∙◌, subst, arith, rules, append_assoc, append-nil, length-append, if◌then◌else◌, slice_get, All, IsSome, IfSome, IsTrue, is_some}
-use Rattle.std.specs.Option.{option_map, option_or, unwrap_or}
+use Rattle.std.proofs.Common.{◌≡◌, ◌<◌, ◌≤◌, ℕ, nat_abs, nat_lt, Bool, true, false, List, [], ◌∷◌, ◌++◌, length, Option, Some, None, Result, Ok, Err, refl, sym, ap, ◌∙◌, subst, arith, length-append, if◌then◌else◌, slice_get, All, IfSome}
+use Rattle.std.specs.Option.{option_or, unwrap_or}
 use Rattle.std.specs.Result.{result_err}
 use Rattle.std.proofs.lemmas.Bool.Decides.{nat_tests}
 use Rattle.postquel_tokens.specs.declared.fault.Spot.{Spot}
@@ -13,14 +13,12 @@ use Rattle.postquel_tokens.specs.Forms as phrase
 use Rattle.postquel_tokens.specs.Forms.{Phrase}
 use Rattle.rel_meaning.specs.declared.query.Var.{Var}
 use Rattle.rows.specs.declared.plain.LayoutColumn.{LayoutColumn}
-use Rattle.rel_meaning.specs.Typing.{type_of, integer_within}
 use Rattle.name_check.specs.declared.heading.Heading.{Heading}
 use Rattle.name_check.specs.declared.heading.HeadColumn.{HeadColumn}
-use Rattle.name_check.specs.Places.{place_by, same}
+use Rattle.name_check.specs.Places.{same}
 use Rattle.name_check.specs.Types.{at, before, between, integer, truth}
-use Rattle.name_check.specs.Built.{built_before, built_between}
-use Rattle.name_check.specs.Faults.{var_named, column_named, heading_named, added, added_over, added_unless, grown, names_in, range_fault, range_fault_at, column_fault, column_fault_at, columns_at, columns_of, var_columns, column_type, fault_in, meaning_in, type_in, before_fault, between_fault, NumbersFit}
-use Rattle.name_check.proofs.Scope.{grown_append, place_item, place_last, same_self, grown_keeps}
+use Rattle.name_check.specs.Faults.{var_named, column_named, heading_named, added, added_over, added_unless, grown, names_in, range_fault, range_fault_at, column_fault, column_fault_at, columns_of, column_type, fault_in, meaning_in, type_in, before_fault, between_fault, NumbersFit}
+use Rattle.name_check.proofs.Scope.{place_item, place_last, same_self, grown_keeps}
 use Rattle.name_check.proofs.Places.{place_within}
 use Rattle.std.proofs.lemmas.List.Elements.{All-nil, All-cons, All-append, All-head, All-tail, All-push}
 use Rattle.name_check.proofs.Typed.{before_typed, between_typed}

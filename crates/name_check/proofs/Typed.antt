@@ -1,10 +1,9 @@
 -- The type of what an operator gives is the type of its expression.
-use Rattle.std.proofs.Common.{◌≡◌, ℕ, Bool, true, false, ◌&&◌, Option, Some, None, Result, Ok, Err, nat_le, refl, ap, ◌∙◌, rules, if◌then◌else◌}
+use Rattle.std.proofs.Common.{◌≡◌, ℕ, Bool, true, false, ◌&&◌, Option, Some, None, Ok, Err, nat_le, if◌then◌else◌}
 use Rattle.rows.specs.declared.field.ColType.{ColType}
 use Rattle.rows.specs.declared.field.ColType.TheVariants as col
 use Rattle.postquel_tokens.specs.declared.fault.Spot.{Spot}
 use Rattle.postquel_tokens.specs.declared.fault.What.TheVariants.{TooWide}
-use Rattle.postquel_tokens.specs.declared.fault.TextErr.{TextErr}
 use Rattle.postquel_tokens.specs.declared.form.UnaryOp.{UnaryOp}
 use Rattle.postquel_tokens.specs.declared.form.UnaryOp.TheVariants.{Not, Negate}
 use Rattle.postquel_tokens.specs.declared.form.BinaryOp.{BinaryOp}
@@ -13,7 +12,7 @@ use Rattle.rel_meaning.specs.declared.expr.ArithOp.{ArithOp}
 use Rattle.rel_meaning.specs.declared.expr.ArithOp.TheVariants as arith_op
 use Rattle.rows.specs.declared.plain.LayoutColumn.{LayoutColumn}
 use Rattle.rel_meaning.specs.Expression.{Expression}
-use Rattle.rel_meaning.specs.Typing.{type_of, same_type, bound_if, bound_of, arith_type, negate_type, integer_within, truth_type}
+use Rattle.rel_meaning.specs.Typing.{type_of, same_type, bound_if, bound_of, arith_type, negate_type, truth_type}
 use Rattle.name_check.specs.Types.{at, truth, integer, typed_at, before, between}
 use Rattle.name_check.specs.Built.{built_before, built_between}
 

@@ -1,28 +1,25 @@
 -- The check of targets finds their first fault, or what they show.
-use Rattle.std.proofs.Common.{◌≡◌, ◌<◌, ◌≤◌, ℕ, Bool, true, false, not, ◌&&◌, List, [], ◌∷◌, ◌++◌, map, Option, Some, None, Result, Ok, Err, length, refl, sym, ap, ◌∙◌, subst, arith, rules, append_assoc, append-nil, if◌then◌else◌, All, codes, slice_get}
+use Rattle.std.proofs.Common.{◌≡◌, ◌≤◌, ℕ, Bool, true, false, List, [], ◌∷◌, ◌++◌, map, Option, Some, None, Result, Ok, Err, length, refl, sym, ap, ◌∙◌, subst, append_assoc, append-nil, if◌then◌else◌, All, slice_get}
 use Rattle.std.proofs.lemmas.List.Elements.{All-head, All-tail}
 use Rattle.std.specs.List.{flat_map}
-use Rattle.std.specs.Str.{bytes_eq}
-use Rattle.std.specs.Option.{option_map, option_or, unwrap_or}
-use Rattle.rows.specs.declared.field.ColType.TheVariants as col
+use Rattle.std.specs.Option.{option_or, unwrap_or}
 use Rattle.postquel_tokens.specs.declared.form.Ident.{Ident}
 use Rattle.postquel_tokens.specs.declared.fault.TextErr.{TextErr}
 use Rattle.postquel_tokens.specs.Forms as phrase
 use Rattle.postquel_tokens.specs.Forms.{Phrase, Wish, Condition}
 use Rattle.rel_meaning.specs.declared.query.Var.{Var}
-use Rattle.rows.specs.declared.plain.LayoutColumn.{LayoutColumn}
-use Rattle.rel_meaning.specs.Typing.{type_of, is_truth}
+use Rattle.rel_meaning.specs.Typing.{is_truth}
 use Rattle.name_check.specs.declared.heading.Heading.{Heading}
 use Rattle.name_check.specs.declared.checking.RangeRef.{RangeRef}
 use Rattle.postquel_tokens.specs.declared.fault.What.TheVariants as what
 use Rattle.name_check.specs.Types.{at}
 use Rattle.name_check.specs.Checked as step
 use Rattle.name_check.specs.Checked.{Meant, checked, and_then, with_vars}
-use Rattle.name_check.specs.Faults.{var_named, column_named, added, grown, names_in, range_fault, range_fault_at, columns_at, columns_of, var_columns, column_type, fault_in, meaning_in, type_in, NumbersFit}
-use Rattle.name_check.specs.Sentences.{Shown, shown, all_shown, wish_names, wish_shown, wish_spot, head_of, output_by, is_fold, plain_outputs, fold_outputs, inner_fault, sum_fault, columns_fault, wishes_fault, test_fault, test_names, or_fault, WishNumbers, TestNumbers}
-use Rattle.name_check.specs.Steps.{named_as, shown_checked, Chosen, with_columns, wish_checked, wishes_checked, test_checked, test_type}
-use Rattle.name_check.specs.Agreed.{Fits, Grew, Agrees, RangeFits, RangeAgrees}
-use Rattle.name_check.specs.Whole.{ShownFits, ShownAgrees, WishesFit, WishesAgree, with_wishes, TestFits, TestAgrees}
+use Rattle.name_check.specs.Faults.{added, grown, names_in, range_fault_at, columns_at, columns_of, var_columns, type_in}
+use Rattle.name_check.specs.Sentences.{Shown, shown, all_shown, wish_names, wish_shown, wish_spot, head_of, output_by, is_fold, plain_outputs, fold_outputs, sum_fault, columns_fault, test_names, or_fault, WishNumbers, TestNumbers}
+use Rattle.name_check.specs.Steps.{named_as, shown_checked, Chosen, with_columns, wishes_checked, test_checked, test_type}
+use Rattle.name_check.specs.Agreed.{Fits, Agrees, RangeAgrees}
+use Rattle.name_check.specs.Whole.{ShownFits, ShownAgrees, WishesAgree, with_wishes, TestAgrees}
 use Rattle.name_check.proofs.Scope.{grown_append}
 use Rattle.name_check.proofs.Ranged.{range_agrees}
 use Rattle.name_check.proofs.Agreed.{agrees, low_fault}

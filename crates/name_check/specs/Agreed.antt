@@ -1,5 +1,5 @@
 -- What the steps of the check have to do with the whole statement's range variables.
-use Rattle.std.specs.Prelude.{◌≡◌, ◌≤◌, ◌<◌, ℕ, List, length, slice_get, Option, Some, None, Result, Ok, Err}
+use Rattle.std.specs.Prelude.{◌≡◌, ◌≤◌, ◌<◌, List, length, slice_get, Some, None, Result, Ok, Err}
 use Rattle.postquel_tokens.specs.declared.form.Ident.{Ident}
 use Rattle.postquel_tokens.specs.declared.fault.TextErr.{TextErr}
 use Rattle.postquel_tokens.specs.Forms.{Phrase}

@@ -1,6 +1,6 @@
 -- The first fault of an expression, what it means and its type, where all range variables of its statement are known.
-use Rattle.std.specs.Prelude.{◌≡◌, ◌≤◌, ℕ, nat_abs, nat_lt, List, [], ◌∷◌, ◌++◌, slice_get, Option, Some, None, Result, Ok, Err, if◌then◌else◌}
-use Rattle.std.specs.Option.{option_map, option_and_then, option_or, unwrap_or}
+use Rattle.std.specs.Prelude.{◌≤◌, ℕ, nat_abs, nat_lt, List, [], ◌∷◌, ◌++◌, slice_get, Option, Some, None, if◌then◌else◌}
+use Rattle.std.specs.Option.{option_map, option_or, unwrap_or}
 use Rattle.std.specs.Result.{result_err}
 use Rattle.postquel_tokens.specs.declared.fault.Spot.{Spot}
 use Rattle.postquel_tokens.specs.declared.form.Ident.{Ident}

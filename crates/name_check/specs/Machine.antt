@@ -1,5 +1,5 @@
 -- The steps of a machine line, and its first fault.
-use Rattle.std.specs.Prelude.{◌≡◌, ℕ, ◌+◌, ℤ, pos, negsuc, nat_abs, Bool, false, nat_le, ◌&&◌, List, [], ◌∷◌, map, Option, Some, None, Result, if◌then◌else◌}
+use Rattle.std.specs.Prelude.{ℕ, ◌+◌, ℤ, pos, negsuc, nat_abs, Bool, false, nat_le, ◌&&◌, List, [], ◌∷◌, map, Option, Some, None, Result, if◌then◌else◌}
 use Rattle.std.specs.Option.{option_or}
 use Rattle.postquel_tokens.specs.declared.fault.Spot.{Spot}
 use Rattle.postquel_tokens.specs.declared.form.StepForm.{StepForm}

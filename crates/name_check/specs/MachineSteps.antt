@@ -1,5 +1,5 @@
 -- A machine line's checks, step by step.
-use Rattle.std.specs.Prelude.{◌≡◌, ℕ, ℤ, nat_abs, List, [], ◌∷◌, ◌++◌, Option, Some, None, Result, Ok, if◌then◌else◌}
+use Rattle.std.specs.Prelude.{ℕ, ℤ, nat_abs, List, [], ◌∷◌, ◌++◌, Option, Some, None, Result, Ok, if◌then◌else◌}
 use Rattle.postquel_tokens.specs.declared.form.StepForm.{StepForm}
 use Rattle.postquel_tokens.specs.declared.fault.TextErr.{TextErr}
 use Rattle.rows.specs.declared.plain.Step.{Step}

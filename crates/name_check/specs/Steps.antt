@@ -1,10 +1,6 @@
 -- A statement's checks, step by step.
-use Rattle.std.specs.Prelude.{◌≡◌, ◌+◌, ℕ, Bool, true, false, not, ◌&&◌, List, [], ◌∷◌, ◌++◌, map, length, Option, Some, None, is_some, Result, Ok, Err, if◌then◌else◌}
-use Rattle.std.specs.List.{list_any}
-use Rattle.std.specs.Option.{option_map, unwrap_or}
+use Rattle.std.specs.Prelude.{ℕ, Bool, not, ◌&&◌, List, [], ◌∷◌, ◌++◌, map, Option, Some, None, is_some, Result, Ok, Err, if◌then◌else◌}
 use Rattle.rows.specs.declared.order.SortKey.{SortKey}
-use Rattle.postquel_tokens.specs.declared.fault.Spot.{Spot}
-use Rattle.postquel_tokens.specs.declared.form.Ident.{Ident}
 use Rattle.postquel_tokens.specs.declared.form.RangeForm.{RangeForm}
 use Rattle.postquel_tokens.specs.declared.form.KeyForm.{KeyForm}
 use Rattle.postquel_tokens.specs.declared.form.IntoForm.{IntoForm}
@@ -21,9 +17,9 @@ use Rattle.name_check.specs.declared.columns.Column.{Column}
 use Rattle.name_check.specs.declared.columns.Outputs.{Outputs}
 use Rattle.name_check.specs.declared.statement.Found.{Found}
 use Rattle.name_check.specs.Types.{at}
-use Rattle.name_check.specs.Checked.{Meant, Tells, and_then, with_vars, checked, column, range, columns_of}
+use Rattle.name_check.specs.Checked.{Meant, and_then, with_vars, checked, column, range, columns_of}
 use Rattle.name_check.specs.Faults.{column_named}
-use Rattle.name_check.specs.Sentences.{Shown, head_of, output_by, is_fold, has_fold, var_of, all_shown, into_fault, range_form_fault, sum_fault, wish_spot, columns_fault, sort_key, or_fault}
+use Rattle.name_check.specs.Sentences.{Shown, head_of, output_by, is_fold, has_fold, var_of, all_shown, into_fault, range_form_fault, sum_fault, wish_spot, columns_fault, or_fault}
 
 abbrev pub shown_of : Column → Shown
 shown_of c = record { name = c.name; expr = expression_of c.expr; layout = c.layout }

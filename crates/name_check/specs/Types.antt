@@ -1,5 +1,5 @@
 -- The types and bounds of operators, and why an operator may not stand at its operands.
-use Rattle.std.specs.Prelude.{ℕ, ◌+◌, ◌*◌, Bool, true, false, nat_le, ◌&&◌, if◌then◌else◌, Option, Some, None, Result, Ok, Err}
+use Rattle.std.specs.Prelude.{ℕ, ◌+◌, ◌*◌, Bool, nat_le, ◌&&◌, if◌then◌else◌, Result, Ok, Err}
 use Rattle.postquel_tokens.specs.declared.fault.Spot.{Spot}
 use Rattle.postquel_tokens.specs.declared.fault.What.{What}
 use Rattle.postquel_tokens.specs.declared.fault.What.TheVariants.{TypeMismatch, TooWide}
@@ -8,7 +8,7 @@ use Rattle.postquel_tokens.specs.declared.fault.TextErr.TheVariants.{Fault}
 use Rattle.postquel_tokens.specs.declared.form.UnaryOp.{UnaryOp}
 use Rattle.postquel_tokens.specs.declared.form.UnaryOp.TheVariants.{Not, Negate}
 use Rattle.postquel_tokens.specs.declared.form.BinaryOp.{BinaryOp}
-use Rattle.postquel_tokens.specs.declared.form.BinaryOp.TheVariants.{Or, And, Equal, NotEqual, Less, AtMost, More, AtLeast, Add, Sub, Mul}
+use Rattle.postquel_tokens.specs.declared.form.BinaryOp.TheVariants.{Or, And, Add, Sub, Mul}
 use Rattle.rows.specs.declared.field.ColType.{ColType}
 use Rattle.rows.specs.declared.field.ColType.TheVariants as col
 use Rattle.rows.specs.declared.plain.LayoutColumn.{LayoutColumn}
