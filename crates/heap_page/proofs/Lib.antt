@@ -1,0 +1,7 @@
+mod Parts
+mod Standing
+mod Written
+mod Read
+mod Pushed
+mod Views
+mod Striping

@@ -1,0 +1,15 @@
+//! What holds of every heap page, and of every table's pages.
+ghost use Rattle.std.specs.Prelude.{◌≡◌, ◌<◌, ◌^◌, ℕ, List, None, length};
+ghost use Rattle.heap_page.specs.Fields.{AreBytes};
+ghost use Rattle.heap_page.specs.Pages.{Fits, fault_of, items_of, page_of};
+
+/// The page with some items has 8,192 bytes, breaks no rule and is read as the same items. A page that breaks no rule is
+/// the page with the items that are read in it, and these fit a page.
+pub fn page_laws()
+    ensures length { (file number : ℕ) (items : List (List ℕ)) → file < 2 ^ 32 → number < 2 ^ 32 → Fits items → length (page_of file number items) ≡ 8192 }
+    ensures accepted { (file number : ℕ) (items : List (List ℕ)) → file < 2 ^ 32 → number < 2 ^ 32 → Fits items → fault_of file number (page_of file number items) ≡ None }
+    ensures again { (file number : ℕ) (items : List (List ℕ)) → file < 2 ^ 32 → number < 2 ^ 32 → Fits items → items_of (page_of file number items) ≡ items }
+    ensures only { (file number : ℕ) (bytes : List ℕ) → AreBytes bytes → length bytes ≡ 8192 → fault_of file number bytes ≡ None → bytes ≡ page_of file number (items_of bytes) }
+    ensures fit { (file number : ℕ) (bytes : List ℕ) → AreBytes bytes → length bytes ≡ 8192 → fault_of file number bytes ≡ None → Fits (items_of bytes) }
+{
+}
