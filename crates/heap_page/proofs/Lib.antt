@@ -5,3 +5,7 @@ mod Read
 mod Pushed
 mod Views
 mod Striping
+mod Cut
+mod Counted
+mod Found
+mod Fillings

@@ -1,5 +1,7 @@
 //! What holds of every heap page, and of every table's pages.
 ghost use Rattle.std.specs.Prelude.{◌≡◌, ◌<◌, ◌^◌, ℕ, List, None, length};
+ghost use Rattle.std.specs.List.{AllByRecursion};
+ghost use Rattle.heap_page.specs.Blocks.{ArePages, FitsAlone, blocks_of, item_weight};
 ghost use Rattle.heap_page.specs.Fields.{AreBytes};
 ghost use Rattle.heap_page.specs.Pages.{Fits, fault_of, items_of, page_of};
 
@@ -11,5 +13,12 @@ pub fn page_laws()
     ensures again { (file number : ℕ) (items : List (List ℕ)) → file < 2 ^ 32 → number < 2 ^ 32 → Fits items → items_of (page_of file number items) ≡ items }
     ensures only { (file number : ℕ) (bytes : List ℕ) → AreBytes bytes → length bytes ≡ 8192 → fault_of file number bytes ≡ None → bytes ≡ page_of file number (items_of bytes) }
     ensures fit { (file number : ℕ) (bytes : List ℕ) → AreBytes bytes → length bytes ≡ 8192 → fault_of file number bytes ≡ None → Fits (items_of bytes) }
+{
+}
+
+/// Items that each fit an empty page can be cut into pages, in exactly one way.
+pub fn block_laws()
+    ensures are { (items : List (List ℕ)) → AllByRecursion FitsAlone items → ArePages items (blocks_of item_weight 8172 items) }
+    ensures only { (items : List (List ℕ)) (blocks others : List (List (List ℕ))) → ArePages items blocks → ArePages items others → blocks ≡ others }
 {
 }
