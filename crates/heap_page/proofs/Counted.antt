@@ -4,6 +4,9 @@ use Rattle.std.specs.List.{All, AllByRecursion}
 use Rattle.std.specs.Global.{Vec}
 use Rattle.std.proofs.lemmas.List.{length-append, length-drop, length-map, take_all, get_or-map, drop_all}
 use Rattle.heap_page.specs.Blocks.{weight_of, item_weight, laid, blocks_of, byte_lists, ArePages, AreBlocks, FitsAlone}
+use Rattle.std.specs.Prelude.{slice_get, Some, ◌^◌}
+use Rattle.heap_page.specs.Pages.{Fits, total, page_of}
+use Rattle.heap_page.proofs.Written.{IsPageOf, page_again}
 use Rattle.heap_page.proofs.Cut.{weight-append, laid_more, laid_next, laid_end, length-laid, begins, are_blocks, only_blocks}
 
 pub light : (items : List (List ℕ)) → AllByRecursion FitsAlone items → AllByRecursion (λ item. item_weight item ≤ 8172) items
@@ -88,3 +91,18 @@ some_cut [] v x lt e xe = absurd (omega arith)
 some_cut (w ∷ vs) v x lt e xe =
     ap (λ (ys : List (Vec ℕ)). laid item_weight 8172 (x ∷ []) (byte_lists ys)) (tail_is (w ∷ vs))
     ∙ ap (λ (y : List ℕ). laid item_weight 8172 (y ∷ []) (byte_lists vs)) (xe ∙ ap (λ (u : Vec ℕ). u.items) e)
+
+-- ---- a page of a table holds what was cut for it
+
+weight_is : (items : List (List ℕ)) → weight_of item_weight items ≡ 4 * length items + total items
+weight_is [] = refl
+weight_is (x ∷ xs) = omega (arith, weight_is xs)
+
+one_fits : (blocks : List (List (List ℕ))) (number : ℕ) (block : List (List ℕ)) → AllByRecursion (λ b. (0 < length b) × (weight_of item_weight b ≤ 8172)) blocks → slice_get blocks number ≡ Some block → Fits block
+one_fits [] number block each e = absurd cc
+one_fits (b ∷ bs) zero block each e = let h : block ≡ b = cc in rw h (omega (arith, each.0.1, weight_is b))
+one_fits (b ∷ bs) (suc number) block each e = one_fits bs number block each.1 e
+
+pub block_again : (file number : ℕ) (items block : List (List ℕ)) (blocks : List (List (List ℕ))) → file < 2 ^ 32 → number < 2 ^ 32 → ArePages items blocks → slice_get blocks number ≡ Some block →
+    IsPageOf file number block (page_of file number block)
+block_again file number items block blocks fs ns h e = page_again file number block fs ns (one_fits blocks number block h.fit e)

@@ -77,3 +77,32 @@ pub file_pages : (fs : List PageFile) (file : ℕ) (f : PageFile) → slice_get 
 file_pages [] file f e = absurd cc
 file_pages (g ∷ fs) zero f e = let h : f ≡ g = cc in rw h (omega arith)
 file_pages (g ∷ fs) (suc file) f e = omega (arith, file_pages fs file f e)
+
+-- ---- every page has a place of its own
+
+next_file : (K d : ℕ) (fs : List PageFile) (i j : ℕ) (f : PageFile) → slice_get fs i ≡ Some f → i < j → shares K d (take i fs) + share K d f.pages ≤ shares K d (take j fs)
+next_file K d [] i j f e lt = absurd cc
+next_file K d (g ∷ fs) i zero f e lt = absurd (omega arith)
+next_file K d (g ∷ fs) zero (suc j) f e lt = let h : f ≡ g = cc in rw h (omega arith)
+next_file K d (g ∷ fs) (suc i) (suc j) f e lt = omega (arith, next_file K d fs i j f e (omega arith))
+
+apart : (map : FileMap) (file page other number : ℕ) → IsMap map → HasPage map.files.items file page → drive_of map page ≡ drive_of map number → address_of map file page ≡ address_of map other number → file < other → ⊥
+apart map file page other number m h same e lt =
+    let b : base map other (drive_of map page) ≡ base map other (drive_of map number) = ap (base map other) same in
+    absurd (omega (arith, place_in_share map.drives page h.0.pages m.some h.2, next_file map.drives (page % map.drives) map.files.items file other h.0 h.1 lt, b, e))
+
+pub one_file : (map : FileMap) (file page other number : ℕ) → IsMap map → HasPage map.files.items file page → HasPage map.files.items other number → drive_of map page ≡ drive_of map number → address_of map file page ≡ address_of map other number → file ≡ other
+one_file map file page other number m h k same e =
+    elim (cases_order file other) [
+      | inl eq ↦ eq
+      | inr (inl less) ↦ absurd (apart map file page other number m h same e less)
+      | inr (inr more) ↦ absurd (apart map other number file page m k (sym same) (sym e) more)
+    ]
+
+pub one_page : (map : FileMap) (file page other number : ℕ) → IsMap map → HasPage map.files.items file page → HasPage map.files.items other number → drive_of map page ≡ drive_of map number → address_of map file page ≡ address_of map other number → page ≡ number
+one_page map file page other number m h k same e =
+    let f = one_file map file page other number m h k same e in
+    let b : base map file (drive_of map page) ≡ base map other (drive_of map number) = ap (λ (i : ℕ). base map i (drive_of map page)) f ∙ ap (base map other) same in
+    let one : page / map.drives ≡ number / map.drives = omega (arith, e, b) in
+    let two : page / map.drives * map.drives ≡ number / map.drives * map.drives = ap (λ (q : ℕ). q * map.drives) one in
+    omega (arith, two, same, div-add-mod' page map.drives, div-add-mod' number map.drives)

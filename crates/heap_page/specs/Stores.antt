@@ -24,6 +24,17 @@ KeepsBut P None (Some new) = ⊥
 KeepsBut P (Some old) None = ⊥
 KeepsBut P (Some old) (Some new) = (length new ≡ length old) × ((address : ℕ) → (P address → ⊥) → slice_get new address ≡ slice_get old address)
 
+-- the error names this page and the first rule that its head breaks
+abbrev pub IsBad : ℕ → ℕ → List ℕ → FetchErr → Type 0
+IsBad file page bytes (fetch.DriveFault d) = ⊥
+IsBad file page bytes (fetch.BadPage bad) = (bad.file ≡ file) × (bad.page ≡ page) × (head_fault Heap file page bytes ≡ Some bad.rule)
+IsBad file page bytes fetch.NoMemory = ⊥
+
+-- the told page has this fault in its head
+abbrev pub HasBadHead : Option (List (List ℕ)) → ℕ → ℕ → BadPage → Type 0
+HasBadHead None address file bad = ⊤
+HasBadHead (Some pages) address file bad = (page : List ℕ) × (slice_get pages address ≡ Some page) × (head_fault Heap file bad.page page ≡ Some bad.rule)
+
 module _ {D : Type 0} (g : Ghosts D) where
   -- a drive after writes to these addresses at most
   pub record IsWritten (P : ℕ → Type 0) (old new : D) : Type 0 where
@@ -80,14 +91,9 @@ module _ {D : Type 0} (g : Ghosts D) where
     pub len : length news ≡ length olds
     pub each : (d : ℕ) (old new : D) → slice_get olds d ≡ Some old → slice_get news d ≡ Some new → IsRead old new
 
-  -- the told page has this fault in its head
-  abbrev pub HasBadHead : ℕ → Option (List (List ℕ)) → ℕ → BadPage → Type 0
-  HasBadHead address None file bad = ⊤
-  HasBadHead address (Some pages) file bad = (page : List ℕ) × (slice_get pages address ≡ Some page) × (head_fault Heap file bad.page page ≡ Some bad.rule)
-
   -- why a page was not read
   abbrev pub ReadCause : FileMap → ℕ → ℕ → List D → List D → FetchErr → Type 0
   ReadCause map file page olds news (fetch.DriveFault d) = (d ≡ drive_of map page) × IsFault d olds news
   ReadCause map file page olds news (fetch.BadPage bad) =
-      (bad.file ≡ file) × (bad.page ≡ page) × ((drive : D) → slice_get olds (drive_of map page) ≡ Some drive → HasBadHead (address_of map file page) (g.pages drive) file bad)
+      (bad.file ≡ file) × (bad.page ≡ page) × ((drive : D) → slice_get olds (drive_of map page) ≡ Some drive → HasBadHead (g.pages drive) (address_of map file page) file bad)
   ReadCause map file page olds news fetch.NoMemory = ⊤

@@ -18,7 +18,7 @@ pub use blocks::{ItemList, pages_of};
 pub use errors::{BadPage, FetchErr, StoreErr};
 pub use filling::write_relation;
 pub use head::{FileKind, check_head};
-pub use laws::{block_laws, page_laws};
+pub use laws::{block_laws, page_laws, place_laws};
 pub use map::{FileMap, PageFile};
 pub use page::{Page, Push};
 pub use reading::read_relation_page;

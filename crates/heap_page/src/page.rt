@@ -68,7 +68,8 @@ fn push_item(bytes: &mut [u8], item: &[u8]) -> Push
 impl Page {
     /// A heap page with no item.
     pub fn empty(alloc: Global, file: u32, number: u32) -> Result<Page, NoMemory>
-        ensures { IfOk result (λ page. page ≡ page_of file number []) }
+        ensures empty { IfOk result (λ page. page ≡ page_of file number []) }
+        ensures page { IfOk result (λ page. IsHeapPage page) }
     {
         let mut bytes = vec![in alloc; 0u8; PAGE]?;
         put_head(&mut bytes, file, number);

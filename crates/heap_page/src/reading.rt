@@ -5,7 +5,7 @@ ghost use Rattle.heap_page.specs.declared.errors.FetchErr.TheVariants as fetch;
 ghost use Rattle.heap_page.specs.declared.head.FileKind.TheVariants.{Heap};
 ghost use Rattle.heap_page.specs.Maps.{IsMap, HasPage, drive_of, address_of};
 ghost use Rattle.heap_page.specs.Pages.{head_fault};
-ghost use Rattle.heap_page.specs.Stores.{AreRead, IsFault, ReadCause};
+ghost use Rattle.heap_page.specs.Stores.{AreRead, IsBad, IsFault, ReadCause};
 
 use crate::{BadPage, FetchErr, FileKind, FileMap, Page, check_head};
 use std::alloc::Global;
@@ -36,14 +36,38 @@ fn read_bytes<D: Drive>(
     }
 }
 
-// Whether the head of a page breaks no rule.
-fn accept(bytes: &[u8], file: u32, page: u32) -> Result<(), BadPage>
-    requires { length bytes.now ≡ 8192 }
-    ensures { MatchResult result (λ _. head_fault Heap file page bytes.now ≡ None) (λ bad. (bad.file ≡ file) × (bad.page ≡ page) × (head_fault Heap file page bytes.now ≡ Some bad.rule)) }
+// The bytes of one page.
+fn read_vec<D: Drive>(
+    alloc: Global,
+    drives: &mut [D],
+    map: &FileMap,
+    file: u32,
+    page: u32,
+) -> Result<Vec<u8>, FetchErr>
+    requires map { IsMap map.now }
+    requires drives { length drives.old ≡ map.now.drives }
+    requires page { HasPage map.now.files.items file page }
+    requires room { (drive : _) → slice_get drives.old (drive_of map.now page) ≡ Some drive → address_of map.now file page < D.size drive }
+    ensures read { AreRead D.Drive drives.old drives.new }
+    ensures told { (drive : _) → slice_get drives.old (drive_of map.now page) ≡ Some drive → IfOk result (λ found. ReadsPage (D.pages drive) (address_of map.now file page) found.items) }
+    ensures whole { IfOk result (λ found. length found.items ≡ 8192) }
+    ensures err { IfErr result (ReadCause D.Drive map.now file page drives.old drives.new) }
 {
-    match check_head(bytes, FileKind::Heap, file, page) {
-        Ok(()) => Ok(()),
-        Err(rule) => Err(BadPage { file, page, rule }),
+    let mut bytes = vec![in alloc; 0u8; PAGE]?;
+    match read_bytes(drives, map, file, page, &mut bytes) {
+        Ok(()) => Ok(bytes),
+        Err(place) => Err(FetchErr::DriveFault(place)),
+    }
+}
+
+// The page of these bytes, where its head breaks no rule.
+fn accept(bytes: Vec<u8>, file: u32, page: u32) -> Result<Page, FetchErr>
+    requires { length bytes.items ≡ 8192 }
+    ensures { MatchResult result (λ found. (head_fault Heap file page bytes.items ≡ None) × (found ≡ bytes.items)) (λ e. IsBad file page bytes.items e) }
+{
+    match check_head(&bytes, FileKind::Heap, file, page) {
+        Ok(()) => Ok(Page::of_vec(bytes)),
+        Err(rule) => Err(FetchErr::BadPage(BadPage { file, page, rule })),
     }
 }
 
@@ -66,13 +90,6 @@ pub fn read_relation_page<D: Drive>(
     ensures head { IfOk result (λ found. head_fault Heap file page found ≡ None) }
     ensures err { IfErr result (ReadCause D.Drive map.now file page drives.old drives.new) }
 {
-    let mut bytes = vec![in alloc; 0u8; PAGE]?;
-    match read_bytes(drives, map, file, page, &mut bytes) {
-        Ok(()) => {}
-        Err(place) => return Err(FetchErr::DriveFault(place)),
-    }
-    match accept(&bytes, file, page) {
-        Ok(()) => Ok(Page::of_vec(bytes)),
-        Err(bad) => Err(FetchErr::BadPage(bad)),
-    }
+    let bytes = read_vec(alloc, drives, map, file, page)?;
+    accept(bytes, file, page)
 }
