@@ -5,7 +5,7 @@ mod Read
 mod Pushed
 mod Views
 mod Striping
-mod Cut
+pub mod Cut
 mod Counted
 mod Found
 mod Fillings

@@ -12,6 +12,8 @@ mod page;
 mod reading;
 mod shares;
 mod source;
+#[cfg(test)]
+mod tests;
 mod view;
 
 pub use blocks::{ItemList, pages_of};
