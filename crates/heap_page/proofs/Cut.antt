@@ -19,7 +19,7 @@ module _ {X : Type 0} (weight : X → ℕ) (limit : ℕ) where
   begins part [] = ([], [], ap (λ (b : List X). b ∷ []) (sym (append-nil part)))
   begins part (x ∷ xs) = by (leb (weight_of weight (part ++ x ∷ [])) limit) (begins (part ++ x ∷ []) xs) where
     by : (b : Bool) → (more : List X) × (rest : List (List X)) × (laid weight limit (part ++ x ∷ []) xs ≡ ((part ++ x ∷ []) ++ more) ∷ rest) →
-      (more : List X) × (rest : List (List X)) × (cond b (laid weight limit (part ++ x ∷ []) xs) (part ∷ laid weight limit (x ∷ []) xs) ≡ (part ++ more) ∷ rest)
+        (more : List X) × (rest : List (List X)) × (cond b (laid weight limit (part ++ x ∷ []) xs) (part ∷ laid weight limit (x ∷ []) xs) ≡ (part ++ more) ∷ rest)
     by true h = (x ∷ h.0, h.1, h.2 ∙ ap (λ (b : List X). b ∷ h.1) (append_assoc part (x ∷ []) h.0))
     by false h = ([], laid weight limit (x ∷ []) xs, ap (λ (b : List X). b ∷ laid weight limit (x ∷ []) xs) (sym (append-nil part)))
 
@@ -43,21 +43,21 @@ module _ {X : Type 0} (weight : X → ℕ) (limit : ℕ) where
   laid_blocks [] part some fit each = record { same = refl; fit = ((some, fit), tt); full = tt }
   laid_blocks (x ∷ xs) part some fit each =
       by (leb (weight_of weight (part ++ x ∷ [])) limit) refl (λ f. laid_blocks xs (part ++ x ∷ []) (omega (arith, length-append part (x ∷ []))) f each.1) (laid_blocks xs (x ∷ []) (omega arith) (alone x each.0) each.1) where
-    by : (b : Bool) → leb (weight_of weight (part ++ x ∷ [])) limit ≡ b → (weight_of weight (part ++ x ∷ []) ≤ limit → AreBlocks weight limit ((part ++ x ∷ []) ++ xs) (laid weight limit (part ++ x ∷ []) xs)) →
-      AreBlocks weight limit (x ∷ xs) (laid weight limit (x ∷ []) xs) →
-      AreBlocks weight limit (part ++ x ∷ xs) (cond b (laid weight limit (part ++ x ∷ []) xs) (part ∷ laid weight limit (x ∷ []) xs))
-    by true e first second =
-      let h = first (leb-true _ _ e) in
-      record { same = h.same ∙ append_assoc part (x ∷ []) xs; fit = h.fit; full = h.full }
-    by false e first second =
-      let h = second in
-      let s = begins (x ∷ []) xs in
-      let no : limit < weight_of weight (part ++ x ∷ []) = leb-false _ _ e in
-      record {
-        same = ap (λ (ys : List X). part ++ ys) h.same;
-        fit = ((some, fit), h.fit);
-        full = rw s.2 (no, rw s.2 at h.full);
-      }
+        by : (b : Bool) → leb (weight_of weight (part ++ x ∷ [])) limit ≡ b → (weight_of weight (part ++ x ∷ []) ≤ limit → AreBlocks weight limit ((part ++ x ∷ []) ++ xs) (laid weight limit (part ++ x ∷ []) xs)) →
+            AreBlocks weight limit (x ∷ xs) (laid weight limit (x ∷ []) xs) →
+            AreBlocks weight limit (part ++ x ∷ xs) (cond b (laid weight limit (part ++ x ∷ []) xs) (part ∷ laid weight limit (x ∷ []) xs))
+        by true e first second =
+            let h = first (leb-true _ _ e) in
+            record { same = h.same ∙ append_assoc part (x ∷ []) xs; fit = h.fit; full = h.full }
+        by false e first second =
+            let h = second in
+            let s = begins (x ∷ []) xs in
+            let no : limit < weight_of weight (part ++ x ∷ []) = leb-false _ _ e in
+            record {
+              same = ap (λ (ys : List X). part ++ ys) h.same;
+              fit = ((some, fit), h.fit);
+              full = rw s.2 (no, rw s.2 at h.full);
+            }
 
   pub are_blocks : (items : List X) → AllByRecursion (λ x. weight x ≤ limit) items → AreBlocks weight limit items (blocks_of weight limit items)
   are_blocks [] each = record { same = refl; fit = tt; full = tt }
@@ -68,7 +68,7 @@ module _ {X : Type 0} (weight : X → ℕ) (limit : ℕ) where
   length-laid part [] = omega arith
   length-laid part (x ∷ xs) = by (leb (weight_of weight (part ++ x ∷ [])) limit) (length-laid (part ++ x ∷ []) xs) (length-laid (x ∷ []) xs) where
     by : (b : Bool) → length (laid weight limit (part ++ x ∷ []) xs) ≤ 1 + length xs → length (laid weight limit (x ∷ []) xs) ≤ 1 + length xs →
-      length (cond b (laid weight limit (part ++ x ∷ []) xs) (part ∷ laid weight limit (x ∷ []) xs)) ≤ 1 + length (x ∷ xs)
+        length (cond b (laid weight limit (part ++ x ∷ []) xs) (part ∷ laid weight limit (x ∷ []) xs)) ≤ 1 + length (x ∷ xs)
     by true h k = omega (arith, h)
     by false h k = omega (arith, k)
 
@@ -90,10 +90,10 @@ module _ {X : Type 0} (weight : X → ℕ) (limit : ℕ) where
   heads_le b r c s e stops fit =
       elim (cases_lt (length b) (length c)) [
         | inl lt ↦ (
-          let sizes : length b + length r ≡ length c + length s = omega (arith, ap length e, length-append b r, length-append c s) in
-          let front : b ++ take 1 r ≡ take (suc (length b)) c = sym (take_over b r) ∙ (ap (take (suc (length b))) e ∙ take-append-le (suc (length b)) c s (omega arith)) in
-          let over = stops (omega arith) in
-          absurd (omega (arith, over, ap (weight_of weight) front, weight_take (suc (length b)) c, fit)))
+            let sizes : length b + length r ≡ length c + length s = omega (arith, ap length e, length-append b r, length-append c s) in
+            let front : b ++ take 1 r ≡ take (suc (length b)) c = sym (take_over b r) ∙ (ap (take (suc (length b))) e ∙ take-append-le (suc (length b)) c s (omega arith)) in
+            let over = stops (omega arith) in
+            absurd (omega (arith, over, ap (weight_of weight) front, weight_take (suc (length b)) c, fit)))
         | inr ge ↦ ge
       ]
 

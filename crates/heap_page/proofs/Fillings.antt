@@ -30,7 +30,7 @@ weight_is [] = refl
 weight_is (x ∷ xs) = omega (arith, weight_is xs)
 
 over : (items : List (List ℕ)) → (Fits items → ⊥) → 8172 < weight_of item_weight items
-over items h = elim (cases_lt 8172 (weight_of item_weight items)) [ | inl lt ↦ lt | inr le ↦ absurd (h (omega (arith, le, weight_is items))) ]
+over items h = elim (cases_lt 8172 (weight_of item_weight items)) [ inl lt ↦ lt | inr le ↦ absurd (h (omega (arith, le, weight_is items))) ]
 
 rose_earlier : (a b c : ℕ) → a ≤ b → Rose b c → Rose a c
 rose_earlier a b c le h = omega (arith, le, h)
@@ -71,15 +71,15 @@ module _ {D : Type 0} (g : Ghosts D) where
   wrote_trans P Q R us bs cs p q h k = record {
     len = k.len ∙ h.len;
     each = λ d a c at_a at_c.
-      let lt : d < length bs = omega (arith, get_below us d a at_a, h.len) in
-      let b = there bs d lt in
-      let one = h.each d a b.0 at_a b.1 in
-      let two = k.each d b.0 c b.1 at_c in
-      record {
-        size = two.size ∙ one.size;
-        count = omega (arith, one.count, two.count);
-        others = keeps_trans (P d) (Q d) (R d) (g.pages a) (g.pages b.0) (g.pages c) (p d) (q d) one.others two.others;
-      };
+        let lt : d < length bs = omega (arith, get_below us d a at_a, h.len) in
+        let b = there bs d lt in
+        let one = h.each d a b.0 at_a b.1 in
+        let two = k.each d b.0 c b.1 at_c in
+        record {
+          size = two.size ∙ one.size;
+          count = omega (arith, one.count, two.count);
+          others = keeps_trans (P d) (Q d) (R d) (g.pages a) (g.pages b.0) (g.pages c) (p d) (q d) one.others two.others;
+        };
   }
 
   keeps_none : (a : Option (List (List ℕ))) (P : ℕ → Type 0) → KeepsBut P a a
@@ -93,8 +93,8 @@ module _ {D : Type 0} (g : Ghosts D) where
   wrote_none P us = record {
     len = refl;
     each = λ d a b at_a at_b.
-      let e : a ≡ b = some_is a b (sym at_a ∙ at_b) in
-      subst (λ (x : D). IsWritten g (P d) a x) e (record { size = refl; count = omega arith; others = keeps_none (g.pages a) (P d) });
+        let e : a ≡ b = some_is a b (sym at_a ∙ at_b) in
+        subst (λ (x : D). IsWritten g (P d) a x) e (record { size = refl; count = omega arith; others = keeps_none (g.pages a) (P d) });
   }
 
   pub room_kept : (map : FileMap) (P : ℕ → ℕ → Type 0) (us bs : List D) → AreWritten g P us bs → HaveRoom g map us → HaveRoom g map bs
@@ -138,12 +138,12 @@ module _ {D : Type 0} (g : Ghosts D) where
   stands_more map file n pages bs cs h now before = λ p c lt at_c. by p c at_c (cases_lt p n) lt where
     by : (p : ℕ) (c : D) → slice_get cs (drive_of map p) ≡ Some c → (p < n) ⊎ (n ≤ p) → p < n + 1 → TellsAt (g.pages c) (address_of map file p) (pages p)
     by p c at_c (inr ge) lt =
-      let e : p ≡ n = omega arith in
-      subst (λ (k : ℕ). (x : D) → slice_get cs (drive_of map k) ≡ Some x → TellsAt (g.pages x) (address_of map file k) (pages k)) (sym e) now c at_c
+        let e : p ≡ n = omega arith in
+        subst (λ (k : ℕ). (x : D) → slice_get cs (drive_of map k) ≡ Some x → TellsAt (g.pages x) (address_of map file k) (pages k)) (sym e) now c at_c
     by p c at_c (inl less) lt =
-      let b = there bs (drive_of map p) (omega (arith, get_below cs (drive_of map p) c at_c, h.len)) in
-      let w = h.each (drive_of map p) b.0 c b.1 at_c in
-      tells_kept (λ a. (drive_of map p ≡ drive_of map n) × (a ≡ address_of map file n)) (g.pages b.0) (g.pages c) (address_of map file p) (pages p) w.others
+        let b = there bs (drive_of map p) (omega (arith, get_below cs (drive_of map p) c at_c, h.len)) in
+        let w = h.each (drive_of map p) b.0 c b.1 at_c in
+        tells_kept (λ a. (drive_of map p ≡ drive_of map n) × (a ≡ address_of map file n)) (g.pages b.0) (g.pages c) (address_of map file p) (pages p) w.others
         (λ out. apart map file p n less out.0 out.1) (before p b.0 less b.1)
 
   -- ---- the state of the loop
@@ -189,8 +189,16 @@ module _ {D : Type 0} (g : Ghosts D) where
     pub is_page : (number : ℕ) (page : List ℕ) (rest : List (List ℕ)) (news : List D) → Filling map file blocks olds number page rest news → IsHeapPage page
     is_page number page rest news s =
         let ns = number_small number (number_below number page rest news s) in
-        record { file = file; number = number; items = s.part; file_small = small_file; number_small = ns; fits = s.fits_page;
-          len = ap length s.page_is ∙ (page_again file number s.part small_file ns s.fits_page).len; same = s.page_is }
+        record {
+          file = file;
+          number = number;
+          items = s.part;
+          file_small = small_file;
+          number_small = ns;
+          fits = s.fits_page;
+          len = ap length s.page_is ∙ (page_again file number s.part small_file ns s.fits_page).len;
+          same = s.page_is;
+        }
 
     pub pushed_in : (number : ℕ) (page x page2 : List ℕ) (rest : List (List ℕ)) (news : List D) → Filling map file blocks olds number page (x ∷ rest) news → Pushes Pushed page x page2 →
         Filling map file blocks olds number page2 rest news
@@ -214,9 +222,10 @@ module _ {D : Type 0} (g : Ghosts D) where
         AreWritten g (IsPlace map file) olds cs × Stands map file (number + 1) (λ p. page_of file p (get_or blocks p [])) cs
     stored number page page1 rest bs cs after part s e is w t =
         let h = drop_head number blocks part [] after e in
-        let same : page1 ≡ page_of file number (get_or blocks number []) = is ∙ ap (page_of file number) (sym h.1) in
-        (wrote_more number bs cs h.0 s.wrote w,
-         stands_more map file number (λ p. page_of file p (get_or blocks p [])) bs cs w (λ c at_c. subst (λ (k : List ℕ). TellsAt (g.pages c) (address_of map file number) k) same (t c at_c)) s.stands)
+        let same : page1 ≡ page_of file number (get_or blocks number []) = is ∙ ap (page_of file number) (sym h.1) in (
+          wrote_more number bs cs h.0 s.wrote w,
+          stands_more map file number (λ p. page_of file p (get_or blocks p [])) bs cs w (λ c at_c. subst (λ (k : List ℕ). TellsAt (g.pages c) (address_of map file number) k) same (t c at_c)) s.stands,
+        )
 
     pub turned : (number : ℕ) (page x page1 page2 : List ℕ) (rest : List (List ℕ)) (bs cs : List D) → Filling map file blocks olds number page (x ∷ rest) bs → Pushes NoRoom page x page1 → length x ≤ 8168 →
         AreWritten g (λ d a. (d ≡ drive_of map number) × (a ≡ address_of map file number)) bs cs →
@@ -276,7 +285,7 @@ module _ {D : Type 0} (g : Ghosts D) where
         Filling map file blocks olds number page (drop i (byte_lists others)) news → Filling map file blocks olds number page (x ∷ drop (i + 1) (byte_lists others)) news
     at_item others i v x number page news lt e xe s =
         subst (λ (r : List (List ℕ)). Filling map file blocks olds number page r news)
-          (items_here others i v lt e ∙ ap (λ (y : List ℕ). y ∷ drop (i + 1) (byte_lists others)) (sym xe)) s
+        (items_here others i v lt e ∙ ap (λ (y : List ℕ). y ∷ drop (i + 1) (byte_lists others)) (sym xe)) s
 
     pub at_end : (others : List (Vec ℕ)) (i number : ℕ) (page : List ℕ) (news : List D) → length others ≤ i → Filling map file blocks olds number page (drop i (byte_lists others)) news → Filling map file blocks olds number page [] news
     at_end others i number page news le s =

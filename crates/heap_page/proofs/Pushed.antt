@@ -15,7 +15,7 @@ use Rattle.heap_page.proofs.Standing.{length-zeros, length-pointers, length-stac
 over : (front x rest part : List ℕ) (at : ℕ) → length front ≡ at → length part ≡ length x → overwritten at part (front ++ (x ++ rest)) ≡ front ++ (part ++ rest)
 over front x rest part at fa same =
     let k : drop (at + length part) (front ++ (x ++ rest)) ≡ rest =
-        ap (drop (at + length part)) (sym (append_assoc front x rest)) ∙ drop_at (front ++ x) rest (at + length part) (omega (arith, length-append front x)) in
+    ap (drop (at + length part)) (sym (append_assoc front x rest)) ∙ drop_at (front ++ x) rest (at + length part) (omega (arith, length-append front x)) in
     rw (take_at front (x ++ rest) at fa, k) refl
 
 pub total-push : (xs : List (List ℕ)) (y : List ℕ) → total (xs ++ y ∷ []) ≡ total xs + length y
@@ -63,7 +63,7 @@ module _ (file number : ℕ) (items : List (List ℕ)) (item : List ℕ) (fits :
 
   pub pushed : overwritten low item (overwritten (20 + 4 * many + 2) (to_be_bytes w16 (length item)) (overwritten (20 + 4 * many) (to_be_bytes w16 low)
       (overwritten 16 (to_be_bytes w16 low) (overwritten 6 (to_be_bytes w16 (many + 1)) (page_of file number items)))))
-    ≡ page_of file number (items ++ item ∷ [])
+      ≡ page_of file number (items ++ item ∷ [])
   unfolding page_of
   pushed =
       let h = head_of file number (many + 1) low in
@@ -73,13 +73,13 @@ module _ (file number : ℕ) (items : List (List ℕ)) (item : List ℕ) (fits :
       let n = length-append items (item ∷ []) in
       let room : 8192 - (20 + 4 * many + total items) ≡ 2 + (2 + (spare + length item)) = omega (arith, size, n) in
       let z : zeros (8192 - (20 + 4 * many + total items)) ≡ zeros 2 ++ (zeros 2 ++ (zeros spare ++ zeros (length item))) =
-          ap zeros room ∙ (zeros-add 2 (2 + (spare + length item)) ∙ ap (λ (ys : List ℕ). zeros 2 ++ ys) (zeros-add 2 (spare + length item) ∙ ap (λ (ys : List ℕ). zeros 2 ++ ys) (zeros-add spare (length item)))) in
+      ap zeros room ∙ (zeros-add 2 (2 + (spare + length item)) ∙ ap (λ (ys : List ℕ). zeros 2 ++ ys) (zeros-add 2 (spare + length item) ∙ ap (λ (ys : List ℕ). zeros 2 ++ ys) (zeros-add spare (length item)))) in
       let a = to_be_bytes w16 low in
       let b = to_be_bytes w16 (length item) in
       let f = zeros spare in
       let l = zeros (length item) in
       let start : overwritten 16 a (overwritten 6 (to_be_bytes w16 (many + 1)) (page_of file number items)) ≡ (h ++ p) ++ (zeros 2 ++ (zeros 2 ++ (f ++ (l ++ s)))) =
-          ap (overwritten 16 a) (count_put _ _) ∙ (upper_put _ _ _ ∙ rw z (simp append_assoc)) in
+      ap (overwritten 16 a) (count_put _ _) ∙ (upper_put _ _ _ ∙ rw z (simp append_assoc)) in
       let hp : length (h ++ p) ≡ 20 + 4 * many = omega (arith, length-append h p, head_len (many + 1) low, length-pointers 8192 items) in
       let one = over (h ++ p) (zeros 2) (zeros 2 ++ (f ++ (l ++ s))) a (20 + 4 * many) hp refl in
       let two = over ((h ++ p) ++ a) (zeros 2) (f ++ (l ++ s)) b (20 + 4 * many + 2) (omega (arith, length-append (h ++ p) a, hp)) refl in
@@ -114,7 +114,7 @@ known old h count upper c u =
     }
 
 at_least : (a b : ℕ) → (a < b → ⊥) → b ≤ a
-at_least a b h = elim (cases_lt a b) [ | inl lt ↦ absurd (h lt) | inr le ↦ le ]
+at_least a b h = elim (cases_lt a b) [ inl lt ↦ absurd (h lt) | inr le ↦ le ]
 
 pub exceeds : (old item : List ℕ) (count upper : ℕ) → Known old count upper → (upper - (20 + 4 * count) < 4 + length item) → Exceeds (items_of old) item
 exceeds old item count upper k short = omega (arith, k.count_is, k.upper_is, k.fits)
@@ -137,7 +137,7 @@ left old item count upper end off k long e o =
     let all = pushed (file_of old) (number_of old) (items_of old) item fits in
     let gives : ℕ → ℕ → ℕ → List ℕ → List ℕ = λ a n o p. overwritten o item (overwritten (a + 2) (to_be_bytes w16 (length item)) (overwritten a (to_be_bytes w16 o) (overwritten 16 (to_be_bytes w16 o) (overwritten 6 (to_be_bytes w16 (n + 1)) p)))) in
     ap (λ (a : ℕ). gives a count off old) e ∙ (ap (λ (n : ℕ). gives (20 + 4 * n) n off old) k.count_is ∙ (ap (λ (x : ℕ). gives (20 + 4 * length (items_of old)) (length (items_of old)) x old) up
-      ∙ (ap (gives (20 + 4 * length (items_of old)) (length (items_of old)) (8192 - total (items_of old) - length item)) k.same ∙ all)))
+    ∙ (ap (gives (20 + 4 * length (items_of old)) (length (items_of old)) (8192 - total (items_of old) - length item)) k.same ∙ all)))
 
 -- what a push does to the page of some items
 abbrev pub PushesOn : Push → ℕ → ℕ → List (List ℕ) → List ℕ → List ℕ → Type 0
@@ -168,5 +168,13 @@ pub still_page : (old item new : List ℕ) (r : Push) → IsHeapPage old → Pus
 still_page old item new NoRoom h p = subst IsHeapPage (sym p.1) h
 still_page old item new Pushed h p =
     let on = pushes_on h.file h.number h.items old item new Pushed h.file_small h.number_small h.fits h.same p in
-    record { file = h.file; number = h.number; items = h.items ++ item ∷ []; file_small = h.file_small; number_small = h.number_small; fits = on.0;
-      len = ap length on.1 ∙ (page_again h.file h.number (h.items ++ item ∷ []) h.file_small h.number_small on.0).len; same = on.1 }
+    record {
+      file = h.file;
+      number = h.number;
+      items = h.items ++ item ∷ [];
+      file_small = h.file_small;
+      number_small = h.number_small;
+      fits = on.0;
+      len = ap length on.1 ∙ (page_again h.file h.number (h.items ++ item ∷ []) h.file_small h.number_small on.0).len;
+      same = on.1;
+    }

@@ -91,7 +91,7 @@ head_back file number bytes small len h =
     let f16 : to_be_bytes w16 (short_at bytes 16) ≡ slice_range bytes 16 18 = short_back bytes 16 small (omega arith) in
     let f18 : to_be_bytes w16 0 ≡ slice_range bytes 18 20 = ap (to_be_bytes w16) (sym h.zero_is) ∙ short_back bytes 18 small (omega arith) in
     b0 ∙ ap (λ (ys : List ℕ). take 4 bytes ++ ys) (b4 ∙ ap (λ (ys : List ℕ). slice_range bytes 4 6 ++ ys) (b6 ∙ ap (λ (ys : List ℕ). slice_range bytes 6 8 ++ ys) (b8
-      ∙ ap (λ (ys : List ℕ). slice_range bytes 8 12 ++ ys) (b12 ∙ ap (λ (ys : List ℕ). slice_range bytes 12 16 ++ ys) (b16 ∙ ap (λ (ys : List ℕ). slice_range bytes 16 18 ++ ys) b18)))))
+    ∙ ap (λ (ys : List ℕ). slice_range bytes 8 12 ++ ys) (b12 ∙ ap (λ (ys : List ℕ). slice_range bytes 12 16 ++ ys) (b16 ∙ ap (λ (ys : List ℕ). slice_range bytes 16 18 ++ ys) b18)))))
     ∙ joined _ _ _ _ _ _ _ _ _ _ _ _ _ _ (drop 20 bytes) h.magic (sym f4) (sym f6) (sym f8) (sym f12) (sym f16) (sym f18)
 
 -- what breaks no rule
@@ -122,12 +122,12 @@ page_back file number bytes small len h =
     let top : 8192 - total items ≡ upper = omega arith in
     let pointed : slice_range bytes 20 (20 + 4 * count) ≡ pointers 8192 items = subst (λ (k : ℕ). slice_range bytes 20 (20 + 4 * k) ≡ pointers 8192 items) (zero-add count) held.pointed in
     let zero_part : slice_range bytes (20 + 4 * count) upper ≡ zeros (8192 - (20 + 4 * length items + total items)) =
-        all_zero (slice_range bytes (20 + 4 * count) upper) body.free ∙ ap zeros (length-part bytes (20 + 4 * count) upper (omega (arith, body.within)) ∙ omega arith) in
+    all_zero (slice_range bytes (20 + 4 * count) upper) body.free ∙ ap zeros (length-part bytes (20 + 4 * count) upper (omega (arith, body.within)) ∙ omega arith) in
     let stack : drop upper bytes ≡ stacked items = part_to_end bytes upper 8192 len body.within ∙ held.stack in
     let s20 = drop_split bytes 20 (20 + 4 * count) (omega arith) in
     let s21 = drop_split bytes (20 + 4 * count) upper body.room in
     let rest : drop 20 bytes ≡ pointers 8192 items ++ (zeros (8192 - (20 + 4 * length items + total items)) ++ stacked items) =
-        s20 ∙ (ap (λ (ys : List ℕ). slice_range bytes 20 (20 + 4 * count) ++ ys) s21 ∙ rw (pointed, zero_part, stack) refl) in
+    s20 ∙ (ap (λ (ys : List ℕ). slice_range bytes 20 (20 + 4 * count) ++ ys) s21 ∙ rw (pointed, zero_part, stack) refl) in
     record {
       same = head_back file number bytes small len head ∙ rw (rest, n, top) refl;
       fits = fits;

@@ -20,19 +20,19 @@ share_is K d (suc n) lt =
     let ih = share_is K d n lt in
     elim (cases_order r d) [
       | inl same ↦ (
-        let was = quotient (n + (K - 1 - d)) K q (K - 1) (omega arith) (omega arith) in
-        let now = quotient (suc n + (K - 1 - d)) K (q + 1) 0 (omega arith) (omega arith) in
-        rw (eq-eqb r d same) (omega (arith, ih, was, now)))
+          let was = quotient (n + (K - 1 - d)) K q (K - 1) (omega arith) (omega arith) in
+          let now = quotient (suc n + (K - 1 - d)) K (q + 1) 0 (omega arith) (omega arith) in
+          rw (eq-eqb r d same) (omega (arith, ih, was, now)))
       | inr (inl less) ↦ (
-        let was = quotient (n + (K - 1 - d)) K q (r + (K - 1 - d)) (omega arith) (omega arith) in
-        let now = quotient (suc n + (K - 1 - d)) K q (r + (K - d)) (omega arith) (omega arith) in
-        let ne : r ≡ d → ⊥ = λ h. absurd (omega arith) in
-        rw (ne_eqb r d ne) (omega (arith, ih, was, now)))
+          let was = quotient (n + (K - 1 - d)) K q (r + (K - 1 - d)) (omega arith) (omega arith) in
+          let now = quotient (suc n + (K - 1 - d)) K q (r + (K - d)) (omega arith) (omega arith) in
+          let ne : r ≡ d → ⊥ = λ h. absurd (omega arith) in
+          rw (ne_eqb r d ne) (omega (arith, ih, was, now)))
       | inr (inr more) ↦ (
-        let was = quotient (n + (K - 1 - d)) K (q + 1) (r - 1 - d) (omega arith) (omega arith) in
-        let now = quotient (suc n + (K - 1 - d)) K (q + 1) (r - d) (omega arith) (omega arith) in
-        let ne : r ≡ d → ⊥ = λ h. absurd (omega arith) in
-        rw (ne_eqb r d ne) (omega (arith, ih, was, now)))
+          let was = quotient (n + (K - 1 - d)) K (q + 1) (r - 1 - d) (omega arith) (omega arith) in
+          let now = quotient (suc n + (K - 1 - d)) K (q + 1) (r - d) (omega arith) (omega arith) in
+          let ne : r ≡ d → ⊥ = λ h. absurd (omega arith) in
+          rw (ne_eqb r d ne) (omega (arith, ih, was, now)))
     ]
 
 pub share_le : (K d n : ℕ) → share K d n ≤ n

@@ -44,8 +44,16 @@ module _ (file number : ℕ) (items : List (List ℕ)) (small_file : file < 2 ^ 
 
   length-page : length (page_of file number items) ≡ 8192
   unfolding page_of free
-  length-page = omega (arith, head_len, length-append head (pointers 8192 items ++ (zeros free ++ stacked items)), length-append (pointers 8192 items) (zeros free ++ stacked items),
-    length-append (zeros free) (stacked items), length-pointers 8192 items, length-zeros free, length-stacked items)
+  length-page = omega (
+    arith,
+    head_len,
+    length-append head (pointers 8192 items ++ (zeros free ++ stacked items)),
+    length-append (pointers 8192 items) (zeros free ++ stacked items),
+    length-append (zeros free) (stacked items),
+    length-pointers 8192 items,
+    length-zeros free,
+    length-stacked items,
+  )
 
   count_is : short_at (page_of file number items) 6 ≡ length items
   unfolding page_of head_of
@@ -83,8 +91,8 @@ module _ (file number : ℕ) (items : List (List ℕ)) (small_file : file < 2 ^ 
   laid : Stands (page_of file number items) (8192 - total items) 8192 0 items
   unfolding page_of free
   laid = stands items (page_of file number items) head (zeros free) [] 0 8192
-    (ap (λ (ys : List ℕ). head ++ (pointers 8192 items ++ (zeros free ++ ys))) (sym (append-nil (stacked items)))) head_len
-    (omega (arith, head_len, length-zeros free)) (omega arith)
+      (ap (λ (ys : List ℕ). head ++ (pointers 8192 items ++ (zeros free ++ ys))) (sym (append-nil (stacked items)))) head_len
+      (omega (arith, head_len, length-zeros free)) (omega arith)
 
   free_is : slice_range (page_of file number items) (20 + 4 * length items) (8192 - total items) ≡ zeros free
   unfolding page_of free

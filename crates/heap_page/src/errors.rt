@@ -1,6 +1,6 @@
 //! Why a page was not read, and why a file was not written.
 
-use std::alloc::AllocError;
+use std::alloc::{AllocError, AllocFailed};
 
 /// A page that breaks a rule: its file, its number and the first broken rule.
 #[derive(Clone, Copy, Debug, PartialEq, Eq)]
@@ -29,6 +29,17 @@ impl From<AllocError> for FetchErr {
     }
 }
 
+impl<T: Drop> From<AllocFailed<T>> for FetchErr {
+    ghost use Rattle.heap_page.specs.declared.errors.FetchErr.TheVariants.{NoMemory};
+    ghost use Rattle.std.specs.Prelude.{◌≡◌};
+
+    ghost from_gives = { λ _ e. e ≡ NoMemory };
+
+    fn from(_refused: AllocFailed<T>) -> FetchErr {
+        FetchErr::NoMemory
+    }
+}
+
 /// Why a file was not written.
 #[derive(Clone, Copy, Debug, PartialEq, Eq)]
 pub enum StoreErr {
@@ -48,6 +59,17 @@ impl From<AllocError> for StoreErr {
     ghost from_gives = { λ _ e. e ≡ NoMemory };
 
     fn from(_refused: AllocError) -> StoreErr {
+        StoreErr::NoMemory
+    }
+}
+
+impl<T: Drop> From<AllocFailed<T>> for StoreErr {
+    ghost use Rattle.heap_page.specs.declared.errors.StoreErr.TheVariants.{NoMemory};
+    ghost use Rattle.std.specs.Prelude.{◌≡◌};
+
+    ghost from_gives = { λ _ e. e ≡ NoMemory };
+
+    fn from(_refused: AllocFailed<T>) -> StoreErr {
         StoreErr::NoMemory
     }
 }

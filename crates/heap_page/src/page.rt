@@ -4,10 +4,9 @@ ghost use Rattle.heap_page.specs.Pages.{zeros, page_of, IsHeapPage};
 ghost use Rattle.heap_page.specs.Pushes.{Pushes};
 
 use crate::field::{put, read_short};
-use xp_outside::PAGE;
 use std::alloc::Global;
-use xp_outside::NoMemory;
 use std::marker::Model;
+use xp_outside::{NoMemory, PAGE};
 
 /// The 8,192 bytes of a page.
 #[derive(Debug, Drop)]

@@ -3,11 +3,12 @@ ghost use Rattle.heap_page.specs.Blocks.{FitsAlone, byte_lists};
 ghost use Rattle.heap_page.specs.Maps.{IsMap, HasPage, HasPages};
 
 use crate::{
-    FetchErr, FileKind, FileMap, ItemList, Page, PageFile, Push, StoreErr, check_head, pages_of,
-    read_page, read_relation_page, write_relation,
+    FetchErr, FileKind, FileMap, ItemList, Page, PageFile, PageSource, Push, StoreErr, check_head,
+    pages_of, read_page, read_relation_page, write_relation,
 };
 use lists::Sequence;
 use std::alloc::Global;
+use std::sync::Arc;
 use std::test::Fail;
 use xp_outside::{Drive, MemDrive, NoMemory};
 
@@ -39,13 +40,20 @@ fn ends_with(page: &Page, file: u32, number: u32, count: u32, item: &[u8]) -> bo
 #[test]
 fn a_changed_byte_breaks_its_rule(rt: HostRuntime) -> Result<(), Fail> {
     let alloc = rt.alloc();
-    let page = page_of(alloc, &[b"14 bytes, one.", b"14 bytes, two.", b"15 bytes, last."])?;
+    let page = page_of(
+        alloc,
+        &[b"14 bytes, one.", b"14 bytes, two.", b"15 bytes, last."],
+    )?;
     let again = Page::of_bytes(alloc, page.bytes())?;
     assert!(rt; ends_with(&again, 3, 5, 3, b"15 bytes, last."));
     assert!(rt; check_head(page.bytes(), FileKind::Heap, 3, 5).is_ok());
-    assert_eq!(rt; check_head(page.bytes(), FileKind::Index, 3, 5).err(), Some(1));
+    assert_eq!(rt;
+        check_head(page.bytes(), FileKind::Index, 3, 5).err(),
+        Some(1)
+    );
     // the place of a byte, the bits that are changed, the rule
-    let table: &[u8] = b"\x00\x01\x01\x05\x01\x02\x12\x01\x03\x0b\x01\x04\x0f\x01\x05\x10\x80\x06\x11\x01\x07\x07\x01\x07\x20\x01\x08";
+    let table: &[u8] =
+        b"\x00\x01\x01\x05\x01\x02\x12\x01\x03\x0b\x01\x04\x0f\x01\x05\x10\x80\x06\x11\x01\x07\x07\x01\x07\x20\x01\x08";
     for row in table.chunks(3) {
         if let [at, mask, rule] = row {
             assert_eq!(rt; rule_of(alloc, &again, *at, *mask)?, Some(*rule as u32));
@@ -150,4 +158,47 @@ fn a_table_is_written_and_read_back(rt: HostRuntime) -> Result<(), Fail> {
     assert!(rt; write_relation(alloc, &mut small, &map, 0, &items) == Err(full));
     assert_eq!(rt; pages_of(&Sequence::new(alloc)), 0);
     Ok(())
+}
+
+// A file whose pages have no items.
+#[derive(Drop)]
+struct EmptyFile {
+    pages: u32,
+}
+
+impl PageSource for EmptyFile {
+    ghost use Rattle.std.specs.Prelude.{Some, [], ◌∷◌};
+    ghost use Rattle.heap_page.specs.declared.head.FileKind.TheVariants.{Heap};
+    ghost use Rattle.heap_page.specs.Pages.{page_of};
+
+    type Whole = u32;
+
+    ghost whole = { λ s. s.pages };
+
+    ghost drives = { λ _. 0 };
+
+    ghost files = { λ pages. record { kind = Heap; pages = pages } ∷ [] };
+
+    ghost image = { λ _. Some (λ file page. page_of file page []) };
+
+    ghost faults = { λ _ _. 0 };
+
+    fn fetch(&mut self, alloc: Global, file: u32, page: u32) -> Result<Arc<Page>, FetchErr> {
+        let page = Page::empty(alloc, file, page)?;
+        Ok(Arc::new(alloc, page)?)
+    }
+}
+
+// Whether both pages of a file can be fetched.
+fn fetches_both<P: PageSource>(alloc: Global, source: &mut P) -> bool
+    requires first { HasPage (P.files (P.whole source.old)) 0 0 }
+    requires second { HasPage (P.files (P.whole source.old)) 0 1 }
+{
+    source.fetch(alloc, 0, 0).is_ok() && source.fetch(alloc, 0, 1).is_ok()
+}
+
+#[test]
+fn a_source_stays_what_it_is(rt: HostRuntime) {
+    let mut source = EmptyFile { pages: 2 };
+    assert!(rt; fetches_both(rt.alloc(), &mut source));
 }

@@ -23,9 +23,10 @@ loop-item-preserved c =
     let blocks = laid item_weight 8172 (c.args.first.now ∷ []) (byte_lists c.args.others.now) in
     let here = at_item blocks c.loop-item.pages c.loop-item.used c.args.others.now c.loop-item.item-index c.item-item.result c.deref.result.now c.loop-item-test.true c.item-item.is c.deref.ensures.value c.loop-item.invariant in
     elim c.if-used-more.branch [
-      then-used-more w ↦ rw (w.pages-is, w.used-is) (goes_on blocks c.loop-item.pages c.loop-item.used c.taken-more.result c.deref.result.now _ here c.taken-more.ensures w.if-used-more.true)
-    | else-used-more w ↦ rw (w.pages-is, w.used-is) (turns blocks c.loop-item.pages c.loop-item.used c.taken-more.result c.deref.result.now _ here c.taken-more.ensures
-        (fit_here c.args.others.now c.loop-item.item-index c.item-item.result c.deref.result.now c.loop-item-test.true c.item-item.is c.deref.ensures.value c.requires.others) w.if-used-more.false) ]
+      | then-used-more w ↦ rw (w.pages-is, w.used-is) (goes_on blocks c.loop-item.pages c.loop-item.used c.taken-more.result c.deref.result.now _ here c.taken-more.ensures w.if-used-more.true)
+      | else-used-more w ↦ rw (w.pages-is, w.used-is) (turns blocks c.loop-item.pages c.loop-item.used c.taken-more.result c.deref.result.now _ here c.taken-more.ensures
+          (fit_here c.args.others.now c.loop-item.item-index c.item-item.result c.deref.result.now c.loop-item-test.true c.item-item.is c.deref.ensures.value c.requires.others) w.if-used-more.false)
+    ]
 
 pub returns : goal.returns
 returns c = at_end (laid item_weight 8172 (c.args.first.now ∷ []) (byte_lists c.args.others.now)) c.loop-item.pages c.loop-item.used c.args.others.now c.loop-item.item-index c.loop-item-test.false c.loop-item.invariant

@@ -12,9 +12,9 @@ count_pages-requires-clause-others c =
 pub returns-in-empty : goal.returns-in-empty
 returns-in-empty c = λ blocks h.
     sym (ap length (is_cut (byte_lists c.args.items.now) blocks (all_items c.args.items.now c.requires.items) h
-      ∙ (ap (λ (vs : List (Vec _)). blocks_of item_weight 8172 (byte_lists vs)) (sym c.items.ensures) ∙ none_cut c.items.result.now c.in-empty.len_below)))
+    ∙ (ap (λ (vs : List (Vec _)). blocks_of item_weight 8172 (byte_lists vs)) (sym c.items.ensures) ∙ none_cut c.items.result.now c.in-empty.len_below)))
 
 pub returns-in-len1-up : goal.returns-in-len1-up
 returns-in-len1-up c = λ blocks h.
     c.count_pages.ensures ∙ (ap length (some_cut c.items.result.now c.first-item.result c.deref.result.now c.in-len1-up.len_at_least c.first-item.is c.deref.ensures.value)
-      ∙ ap length (ap (λ (vs : List (Vec _)). blocks_of item_weight 8172 (byte_lists vs)) c.items.ensures ∙ sym (is_cut (byte_lists c.args.items.now) blocks (all_items c.args.items.now c.requires.items) h)))
+    ∙ ap length (ap (λ (vs : List (Vec _)). blocks_of item_weight 8172 (byte_lists vs)) c.items.ensures ∙ sym (is_cut (byte_lists c.args.items.now) blocks (all_items c.args.items.now c.requires.items) h)))

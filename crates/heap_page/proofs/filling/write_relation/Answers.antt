@@ -18,18 +18,18 @@ pub write_pages-requires-clause-pages : goal.write_pages-requires-clause-pages
 write_pages-requires-clause-pages g c =
     let items = c.args.items.now in
     let cut = some_cut c.items.result.now c.first-item.result c.deref.result.now c.in-len1-up.len_at_least c.first-item.is c.deref.ensures.value
-      ∙ ap (λ (vs : List (Vec _)). blocks_of item_weight 8172 (byte_lists vs)) c.items.ensures in
+    ∙ ap (λ (vs : List (Vec _)). blocks_of item_weight 8172 (byte_lists vs)) c.items.ensures in
     rw cut (c.requires.pages (blocks_of item_weight 8172 (byte_lists items)) (are_blocks item_weight 8172 (byte_lists items) (light (byte_lists items) (all_items items c.requires.items))))
 
 pub returns-in-empty-clause-ok : goal.returns-in-empty-clause-ok
 returns-in-empty-clause-ok g c = λ blocks h page items drive at at_d.
     let none : blocks ≡ [] = is_cut (byte_lists c.args.items.now) blocks (all_items c.args.items.now c.requires.items) h
-      ∙ (ap (λ (vs : List (Vec _)). blocks_of item_weight 8172 (byte_lists vs)) (sym c.items.ensures) ∙ none_cut c.items.result.now c.in-empty.len_below) in
+    ∙ (ap (λ (vs : List (Vec _)). blocks_of item_weight 8172 (byte_lists vs)) (sym c.items.ensures) ∙ none_cut c.items.result.now c.in-empty.len_below) in
     absurd (omega (arith, (some_get blocks page items [] at).0, ap length none))
 
 pub returns-in-len1-up-clause-ok : goal.returns-in-len1-up-clause-ok
 returns-in-len1-up-clause-ok g c = λ blocks h.
     let cut = some_cut c.items.result.now c.first-item.result c.deref.result.now c.in-len1-up.len_at_least c.first-item.is c.deref.ensures.value
-      ∙ (ap (λ (vs : List (Vec _)). blocks_of item_weight 8172 (byte_lists vs)) c.items.ensures
-      ∙ sym (is_cut (byte_lists c.args.items.now) blocks (all_items c.args.items.now c.requires.items) h)) in
+    ∙ (ap (λ (vs : List (Vec _)). blocks_of item_weight 8172 (byte_lists vs)) c.items.ensures
+    ∙ sym (is_cut (byte_lists c.args.items.now) blocks (all_items c.args.items.now c.requires.items) h)) in
     subst (λ (bs : List (List (List _))). OnOk c.write_pages.result (Stand g.D.Drive c.args.map.now c.args.file bs c.write_pages.new.drives)) cut c.write_pages.ensures.ok

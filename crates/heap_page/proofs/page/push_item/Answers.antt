@@ -13,7 +13,7 @@ pub returns-then-upper-end-lt4-clause-pushed : goal.returns-then-upper-end-lt4-c
 returns-then-upper-end-lt4-clause-pushed c =
     let k = known c.args.bytes.now c.requires c.read_short-count.result c.read_short-upper.result c.read_short-count.ensures c.read_short-upper.ensures in
     let short : c.read_short-upper.result - (20 + 4 * c.read_short-count.result) < 4 + length c.args.item.now =
-        elim c.then-upper-end-lt4.branch [ then-upper-end-lt4-via-then-upper-end-lt4 w ↦ omega arith | then-upper-end-lt4-via-else-upper-end-lt4+then-upper-end w ↦ omega arith ] in
+    elim c.then-upper-end-lt4.branch [ then-upper-end-lt4-via-then-upper-end-lt4 w ↦ omega arith | then-upper-end-lt4-via-else-upper-end-lt4+then-upper-end w ↦ omega arith ] in
     (exceeds c.args.bytes.now c.args.item.now c.read_short-count.result c.read_short-upper.result k short, refl)
 
 pub put-requires-3 : goal.put-requires-3
@@ -30,9 +30,10 @@ pub returns-clause-pushed : goal.returns-clause-pushed
 returns-clause-pushed c =
     let k = known c.args.bytes.now c.requires c.read_short-count.result c.read_short-upper.result c.read_short-count.ensures c.read_short-upper.ensures in
     let long : 4 + length c.args.item.now ≤ c.read_short-upper.result - (20 + 4 * c.read_short-count.result) = omega arith in
-    let all = left c.args.bytes.now c.args.item.now c.read_short-count.result c.read_short-upper.result (20 + 4 * c.read_short-count.result) (c.read_short-upper.result - length c.args.item.now) k long refl refl in
-    (not_over c.args.bytes.now c.args.item.now c.read_short-count.result c.read_short-upper.result k long,
-     rw (c.put-5.ensures, c.put-4.ensures, c.put-3.ensures, c.put-2.ensures, c.put.ensures, c.to_be_bytes.ensures, c.to_be_bytes-2.ensures, c.to_be_bytes-3.ensures, c.to_be_bytes-4.ensures) all)
+    let all = left c.args.bytes.now c.args.item.now c.read_short-count.result c.read_short-upper.result (20 + 4 * c.read_short-count.result) (c.read_short-upper.result - length c.args.item.now) k long refl refl in (
+      not_over c.args.bytes.now c.args.item.now c.read_short-count.result c.read_short-upper.result k long,
+      rw (c.put-5.ensures, c.put-4.ensures, c.put-3.ensures, c.put-2.ensures, c.put.ensures, c.to_be_bytes.ensures, c.to_be_bytes-2.ensures, c.to_be_bytes-3.ensures, c.to_be_bytes-4.ensures) all,
+    )
 
 pub returns-clause-page : goal.returns-clause-page
 returns-clause-page c = still_page c.args.bytes.now c.args.item.now _ Pushed c.requires (returns-clause-pushed c)

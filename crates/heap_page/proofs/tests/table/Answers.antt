@@ -17,4 +17,4 @@ returns-clause-fit c =
     let b = c.in_ok-second.second in
     let d = c.in_ok-third.third in
     rw (c.from_vec.ensures ∙ c.in_ok-vec.ensures.items)
-      (one_more a (b ∷ d ∷ []) (omega (arith, c.in_ok-first.ensures.len)) (one_more b (d ∷ []) (omega (arith, c.in_ok-second.ensures.len)) (one_more d [] (omega (arith, c.in_ok-third.ensures.len)) none)))
+    (one_more a (b ∷ d ∷ []) (omega (arith, c.in_ok-first.ensures.len)) (one_more b (d ∷ []) (omega (arith, c.in_ok-second.ensures.len)) (one_more d [] (omega (arith, c.in_ok-third.ensures.len)) none)))
