@@ -2,12 +2,12 @@
 use Rattle.std.proofs.Common.{◌≡◌, ℕ, zero, suc, ◌+◌, ◌*◌, ◌<◌, ◌≤◌, List, [], ◌∷◌, ◌++◌, length, get_or, take, drop, refl, sym, ap, subst, ◌∙◌, arith, ◌-◌}
 use Rattle.std.specs.List.{All, AllByRecursion}
 use Rattle.std.specs.Global.{Vec}
-use Rattle.std.proofs.lemmas.List.{length-append, length-drop, length-map, take_all, get_or-map, drop_all}
-use Rattle.heap_page.specs.Blocks.{weight_of, item_weight, laid, blocks_of, byte_lists, ArePages, AreBlocks, FitsAlone}
+use Rattle.std.proofs.lemmas.List.{length-map, take_all, get_or-map, drop_all}
+use Rattle.heap_page.specs.Blocks.{weight_of, item_weight, laid, blocks_of, byte_lists, ArePages, FitsAlone}
 use Rattle.std.specs.Prelude.{slice_get, Some, ◌^◌}
 use Rattle.heap_page.specs.Pages.{Fits, total, page_of}
 use Rattle.heap_page.proofs.Written.{IsPageOf, page_again}
-use Rattle.heap_page.proofs.Cut.{weight-append, laid_more, laid_next, laid_end, length-laid, begins, are_blocks, only_blocks}
+use Rattle.heap_page.proofs.Cut.{weight-append, laid_more, laid_next, laid_end, begins, are_blocks, only_blocks}
 
 pub light : (items : List (List ℕ)) → AllByRecursion FitsAlone items → AllByRecursion (λ item. item_weight item ≤ 8172) items
 light [] each = tt

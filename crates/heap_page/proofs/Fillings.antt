@@ -1,13 +1,11 @@
 -- Filling pages one after the other.
-use Rattle.std.proofs.Common.{◌≡◌, ℕ, zero, suc, ◌+◌, ◌*◌, ◌/◌, ◌%◌, ◌<◌, ◌≤◌, min, Bool, true, false, List, [], ◌∷◌, ◌++◌, length, get_or, set, take, drop, ◌-◌, ◌^◌, Option, Some, None, refl, sym, ap, subst, ◌∙◌, arith, inl, inr}
-use Rattle.std.specs.Prelude.{slice_get, slice_set, ◌≢◌, ◌⊎◌, IfErr, Result, Ok, Err}
-use Rattle.std.specs.List.{All}
+use Rattle.std.proofs.Common.{◌≡◌, ℕ, zero, suc, ◌+◌, ◌*◌, ◌/◌, ◌<◌, ◌≤◌, List, [], ◌∷◌, ◌++◌, length, get_or, drop, ◌^◌, Option, Some, None, refl, sym, ap, subst, ◌∙◌, arith, inl, inr}
+use Rattle.std.specs.Prelude.{slice_get, ◌⊎◌, IfErr, Result, Ok, Err}
 use Rattle.std.specs.Global.{Vec}
 use Rattle.std.proofs.lemmas.Bool.{cases_lt}
 use Rattle.std.proofs.lemmas.List.{length-drop, length-map, drop_all}
 use Rattle.std.proofs.lemmas.Nat.{div-add-mod'}
 use Rattle.xp_outside.specs.Outside.{Rose}
-use Rattle.xp_outside.specs.Drives.{StillTells, WritesPage}
 use Rattle.xp_outside.specs.declared.drive.Drive.{Ghosts}
 use Rattle.heap_page.specs.declared.map.FileMap.{FileMap}
 use Rattle.heap_page.specs.declared.errors.StoreErr.{StoreErr}
@@ -15,12 +13,12 @@ use Rattle.heap_page.specs.declared.errors.StoreErr.TheVariants.{DriveFault, Dri
 use Rattle.heap_page.specs.Pages.{Fits, total, page_of, IsHeapPage}
 use Rattle.heap_page.specs.Pushes.{Pushes}
 use Rattle.heap_page.specs.declared.page.Push.TheVariants.{Pushed, NoRoom}
-use Rattle.heap_page.proofs.Pushed.{PushesOn, pushes_on}
+use Rattle.heap_page.proofs.Pushed.{pushes_on}
 use Rattle.heap_page.proofs.Written.{page_again}
 use Rattle.heap_page.proofs.Striping.{file_pages}
-use Rattle.heap_page.specs.Blocks.{weight_of, item_weight, FitsAlone, laid, byte_lists}
-use Rattle.heap_page.specs.Maps.{drive_of, address_of, needs_of, base, IsMap, IsPlace, HasPage, HasPages}
-use Rattle.heap_page.specs.Stores.{TellsAt, KeepsBut, IsWritten, AreWritten, Stand, HaveRoom, IsFault, IsFull, StoreCause}
+use Rattle.heap_page.specs.Blocks.{weight_of, item_weight, laid, byte_lists}
+use Rattle.heap_page.specs.Maps.{drive_of, address_of, base, IsMap, IsPlace, HasPage, HasPages}
+use Rattle.heap_page.specs.Stores.{TellsAt, KeepsBut, IsWritten, AreWritten, Stand, HaveRoom, StoreCause}
 use Rattle.heap_page.proofs.Cut.{begins, laid_more, laid_next, laid_end}
 use Rattle.heap_page.proofs.Counted.{items_here}
 use Rattle.heap_page.proofs.Found.{get_below}

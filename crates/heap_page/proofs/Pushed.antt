@@ -1,6 +1,6 @@
 -- What is written to push an item.
-use Rattle.std.proofs.Common.{◌≡◌, ℕ, zero, suc, ◌+◌, ◌-◌, ◌*◌, ◌^◌, ◌<◌, ◌≤◌, List, [], ◌∷◌, ◌++◌, length, take, drop, refl, sym, ap, subst, ◌∙◌, append_assoc, zero-add, arith, inl, inr}
-use Rattle.std.specs.Int.{w16, w32, to_be_bytes}
+use Rattle.std.proofs.Common.{◌≡◌, ℕ, zero, suc, ◌+◌, ◌-◌, ◌*◌, ◌^◌, ◌<◌, ◌≤◌, List, [], ◌∷◌, ◌++◌, length, drop, refl, sym, ap, subst, ◌∙◌, append_assoc, zero-add, arith, inl, inr}
+use Rattle.std.specs.Int.{w16, to_be_bytes}
 use Rattle.std.proofs.lemmas.Bool.{cases_lt}
 use Rattle.std.proofs.lemmas.List.{length-append, append-nil, take_at, drop_at}
 use Rattle.heap_page.specs.Fields.{overwritten, short_at}
@@ -9,7 +9,7 @@ use Rattle.heap_page.specs.Pushes.{Exceeds, Pushes}
 use Rattle.heap_page.specs.declared.page.Push.{Push}
 use Rattle.heap_page.specs.declared.page.Push.TheVariants.{Pushed, NoRoom}
 use Rattle.heap_page.proofs.Written.{IsPageOf, page_again}
-use Rattle.heap_page.proofs.Standing.{length-zeros, length-pointers, length-stacked}
+use Rattle.heap_page.proofs.Standing.{length-zeros, length-pointers}
 
 -- a part that is written over another of its length
 over : (front x rest part : List ℕ) (at : ℕ) → length front ≡ at → length part ≡ length x → overwritten at part (front ++ (x ++ rest)) ≡ front ++ (part ++ rest)

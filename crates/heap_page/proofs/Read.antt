@@ -1,18 +1,17 @@
 -- What breaks no rule is the page of its items.
-use Rattle.std.proofs.Common.{◌≡◌, ℕ, zero, suc, ◌+◌, ◌-◌, ◌*◌, ◌^◌, ◌<◌, ◌≤◌, Bool, true, false, cond, eqb, leb, not, ◌&&◌, List, [], ◌∷◌, ◌++◌, length, get_or, take, drop, refl, sym, ap, subst, ◌∙◌, append_assoc, zero-add, eq-eqb, arith, Option, Some, None}
+use Rattle.std.proofs.Common.{◌≡◌, ℕ, zero, suc, ◌+◌, ◌-◌, ◌*◌, ◌≤◌, Bool, true, false, cond, eqb, leb, not, ◌&&◌, List, [], ◌∷◌, ◌++◌, length, take, drop, refl, sym, ap, subst, ◌∙◌, append_assoc, zero-add, arith, Option, Some, None}
 use Rattle.std.specs.Prelude.{slice_range}
 use Rattle.std.specs.List.{list_all}
 use Rattle.std.specs.Str.{bytes_eq}
-use Rattle.std.specs.Int.{w16, w32, from_be_bytes, to_be_bytes}
-use Rattle.std.proofs.lemmas.List.{length-append, append-nil, length-drop, take-append-drop}
-use Rattle.std.proofs.lemmas.Bool.{eqb-true, leb-true, le-leb, and_parts}
+use Rattle.std.specs.Int.{w16, w32, to_be_bytes}
+use Rattle.std.proofs.lemmas.List.{take-append-drop}
+use Rattle.std.proofs.lemmas.Bool.{eqb-true, leb-true, and_parts}
 use Rattle.std.proofs.lemmas.Slice.Eq.{bytes_eq-Decides}
-use Rattle.heap_page.specs.declared.head.FileKind.{FileKind}
 use Rattle.heap_page.specs.declared.head.FileKind.TheVariants.{Heap}
 use Rattle.heap_page.specs.Fields.{short_at, long_at}
-use Rattle.heap_page.specs.Pages.{magic_of, version_of, zeros, total, Fits, pointers, stacked, page_of, head_of, item_at, items_from, items_of, file_of, number_of, is_stacked, first_of, head_fault, body_fault, fault_of}
-use Rattle.heap_page.proofs.Parts.{IsBytes, part_again, part_split, part_to_end, drop_split, length-part, short_again, short_back, short_below, long_back, long_below}
-use Rattle.heap_page.proofs.Standing.{Holds, holds}
+use Rattle.heap_page.specs.Pages.{magic_of, zeros, total, Fits, pointers, stacked, page_of, head_of, items_from, items_of, file_of, number_of, is_stacked, first_of, head_fault, body_fault, fault_of}
+use Rattle.heap_page.proofs.Parts.{IsBytes, part_to_end, drop_split, length-part, short_back, long_back}
+use Rattle.heap_page.proofs.Standing.{holds}
 
 -- a test that broke no rule
 passed : (b : Bool) (rule : ℕ) (rest : Option ℕ) → cond (not b) (Some rule) rest ≡ None → (b ≡ true) × (rest ≡ None)

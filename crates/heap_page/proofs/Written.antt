@@ -1,18 +1,15 @@
 -- The two laws of a page.
-use Rattle.std.proofs.Common.{◌≡◌, ℕ, zero, suc, ◌+◌, ◌-◌, ◌*◌, ◌^◌, ◌<◌, ◌≤◌, Bool, true, false, cond, eqb, leb, not, ◌&&◌, List, [], ◌∷◌, ◌++◌, length, get_or, take, drop, refl, sym, ap, subst, ◌∙◌, append_assoc, eq-eqb, arith, Option, Some, None}
+use Rattle.std.proofs.Common.{◌≡◌, ℕ, zero, suc, ◌+◌, ◌-◌, ◌*◌, ◌^◌, ◌<◌, true, eqb, leb, List, [], ◌++◌, length, take, refl, sym, ap, ◌∙◌, append_assoc, eq-eqb, arith, None}
 use Rattle.std.specs.Prelude.{slice_range}
 use Rattle.std.specs.List.{list_all}
-use Rattle.std.specs.Str.{bytes_eq}
-use Rattle.std.specs.Int.{w16, w32, from_be_bytes, to_be_bytes}
-use Rattle.std.proofs.lemmas.List.{length-append, append-nil, length-drop}
-use Rattle.std.proofs.lemmas.Bool.{eqb-true, leb-true, le-leb}
+use Rattle.std.proofs.lemmas.List.{length-append, append-nil}
+use Rattle.std.proofs.lemmas.Bool.{le-leb}
 use Rattle.std.proofs.lemmas.Nat.{from_be_bytes-to_be_bytes_2, from_be_bytes-to_be_bytes_4}
-use Rattle.heap_page.specs.declared.head.FileKind.{FileKind}
 use Rattle.heap_page.specs.declared.head.FileKind.TheVariants.{Heap}
 use Rattle.heap_page.specs.Fields.{short_at, long_at}
-use Rattle.heap_page.specs.Pages.{magic_of, version_of, zeros, total, Fits, pointers, stacked, page_of, head_of, item_at, items_from, items_of, file_of, number_of, is_stacked, first_of, head_fault, body_fault, fault_of}
-use Rattle.heap_page.proofs.Parts.{IsBytes, part_again, part_split, part_to_end, drop_split, length-part, short_again, short_back, short_below, long_back, long_below}
-use Rattle.heap_page.proofs.Standing.{Stands, stands, Stands-items, Stands-stacked, Holds, holds, length-zeros, length-pointers, length-stacked}
+use Rattle.heap_page.specs.Pages.{magic_of, zeros, total, Fits, pointers, stacked, page_of, head_of, items_of, file_of, number_of, head_fault, body_fault, fault_of}
+use Rattle.heap_page.proofs.Parts.{part_again}
+use Rattle.heap_page.proofs.Standing.{Stands, stands, Stands-items, Stands-stacked, length-zeros, length-pointers, length-stacked}
 
 all_zeros : (n : ℕ) → list_all (λ b. eqb b 0) (zeros n) ≡ true
 all_zeros zero = refl

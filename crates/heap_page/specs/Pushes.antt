@@ -1,5 +1,5 @@
 -- What a push does.
-use Rattle.std.specs.Prelude.{◌≡◌, ◌+◌, ◌*◌, ◌-◌, ◌<◌, ℕ, List, [], ◌∷◌, ◌++◌, length}
+use Rattle.std.specs.Prelude.{◌≡◌, ◌+◌, ◌<◌, ℕ, List, [], ◌∷◌, ◌++◌, length}
 use Rattle.heap_page.specs.declared.page.Push.{Push}
 use Rattle.heap_page.specs.declared.page.Push.TheVariants.{Pushed, NoRoom}
 use Rattle.heap_page.specs.Pages.{free_bytes, page_of, items_of, file_of, number_of}

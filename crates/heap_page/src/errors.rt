@@ -10,7 +10,7 @@ pub struct BadPage {
     pub rule: u32,
 }
 
-/// Why a page was not fetched.
+/// Why a page was not fetched: the drive of this number failed, the page breaks a rule, or there is no memory.
 #[derive(Clone, Copy, Debug, PartialEq, Eq)]
 pub enum FetchErr {
     DriveFault(u32),
@@ -40,7 +40,8 @@ impl<T: Drop> From<AllocFailed<T>> for FetchErr {
     }
 }
 
-/// Why a file was not written.
+/// Why a file was not written: the drive of this number failed, a drive has fewer pages than all files need there, or
+/// there is no memory.
 #[derive(Clone, Copy, Debug, PartialEq, Eq)]
 pub enum StoreErr {
     DriveFault(u32),

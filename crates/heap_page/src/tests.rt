@@ -12,12 +12,12 @@ use std::sync::Arc;
 use std::test::Fail;
 use xp_outside::{Drive, MemDrive, NoMemory};
 
-// A page of file 3 with number 5 and these items, as far as they go in.
-fn page_of(alloc: Global, items: &[&[u8]]) -> Result<Page, NoMemory> {
+// A page of file 3 with number 5 and three items.
+fn three_items(alloc: Global) -> Result<Page, NoMemory> {
     let mut page = Page::empty(alloc, 3, 5)?;
-    for item in items {
-        page.push(item);
-    }
+    page.push(b"14 bytes, one.");
+    page.push(b"14 bytes, two.");
+    page.push(b"15 bytes, last.");
     Ok(page)
 }
 
@@ -40,10 +40,7 @@ fn ends_with(page: &Page, file: u32, number: u32, count: u32, item: &[u8]) -> bo
 #[test]
 fn a_changed_byte_breaks_its_rule(rt: HostRuntime) -> Result<(), Fail> {
     let alloc = rt.alloc();
-    let page = page_of(
-        alloc,
-        &[b"14 bytes, one.", b"14 bytes, two.", b"15 bytes, last."],
-    )?;
+    let page = three_items(alloc)?;
     let again = Page::of_bytes(alloc, page.bytes())?;
     assert!(rt; ends_with(&again, 3, 5, 3, b"15 bytes, last."));
     assert!(rt; check_head(page.bytes(), FileKind::Heap, 3, 5).is_ok());

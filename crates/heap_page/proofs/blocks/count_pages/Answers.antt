@@ -1,4 +1,4 @@
-use Rattle.std.proofs.Common.{◌≡◌, ◌+◌, ◌≤◌, ◌∷◌, [], length, drop, arith}
+use Rattle.std.proofs.Common.{◌∷◌, [], arith}
 use Rattle.std.specs.Global.{Vec}
 use Rattle.std.proofs.lemmas.List.{length-map}
 use Rattle.heap_page.specs.Blocks.{item_weight, laid, byte_lists}

@@ -1,4 +1,4 @@
-use Rattle.std.proofs.Common.{◌≡◌, ◌∙◌, List, length, sym, ap, subst}
+use Rattle.std.proofs.Common.{◌∙◌, List, length, sym, ap, subst}
 use Rattle.std.specs.List.{All}
 use Rattle.std.specs.Global.{Vec}
 use Rattle.heap_page.specs.Blocks.{byte_lists, FitsAlone, blocks_of, item_weight}

@@ -1,4 +1,4 @@
-use Rattle.std.proofs.Common.{◌≡◌, ℕ, ◌<◌, ◌≤◌, arith, refl}
+use Rattle.std.proofs.Common.{◌≤◌, arith, refl}
 use Rattle.heap_page.specs.Maps.{needs_of}
 use Rattle.heap_page.proofs.Found.{some_at, get_below, below_is}
 use Rattle.heap_page.proofs.filling.check_room.Goals as goal

@@ -1,12 +1,11 @@
-use Rattle.std.proofs.Common.{◌≡◌, ℕ, ◌+◌, ◌<◌, ◌≤◌, List, [], ◌∷◌, length, get_or, drop, sym, ap, subst, ◌∙◌, arith}
-use Rattle.std.specs.Prelude.{slice_get}
+use Rattle.std.proofs.Common.{◌≡◌, ℕ, ◌+◌, List, [], ◌∷◌, drop, sym, ap, ◌∙◌, arith}
 use Rattle.std.proofs.lemmas.Result.{err_from_is_err_and, on_ok_weaker}
 use Rattle.heap_page.specs.Pages.{page_of}
 use Rattle.heap_page.specs.Stores.{StoreCause}
 use Rattle.heap_page.specs.Maps.{IsPlace}
 use Rattle.heap_page.proofs.Counted.{fit_here}
-use Rattle.heap_page.specs.Blocks.{item_weight, laid, byte_lists, FitsAlone}
-use Rattle.heap_page.proofs.Fillings.{starts, number_below, in_file, number_small, is_page, pushed_in, turned, wrote_some, ended, next_below, page_after, at_item, at_end, cause_later, if_err_map}
+use Rattle.heap_page.specs.Blocks.{item_weight, laid, byte_lists}
+use Rattle.heap_page.proofs.Fillings.{number_below, in_file, number_small, is_page, pushed_in, turned, wrote_some, ended, next_below, at_item, at_end, cause_later, if_err_map}
 use Rattle.heap_page.proofs.filling.write_pages.Goals as goal
 use Rattle.heap_page.proofs.filling.write_pages.Goals.{in-Pushed, in-NoRoom+in_ok-turn_page-in-NoRoom}
 

@@ -1,4 +1,4 @@
-use Rattle.std.proofs.Common.{◌≡◌, ◌∷◌, [], drop}
+use Rattle.std.proofs.Common.{◌∷◌, [], drop}
 use Rattle.heap_page.specs.Blocks.{item_weight, laid, byte_lists}
 use Rattle.heap_page.proofs.Fillings.{Filling}
 use Rattle.heap_page.proofs.filling.write_pages.Given as goal

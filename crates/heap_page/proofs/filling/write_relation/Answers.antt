@@ -1,11 +1,10 @@
-use Rattle.std.proofs.Common.{◌≡◌, ◌∙◌, ◌∷◌, [], List, drop, length, sym, ap, subst, refl, arith}
+use Rattle.std.proofs.Common.{◌≡◌, ◌∙◌, [], List, length, sym, ap, subst, arith}
 use Rattle.std.specs.Prelude.{OnOk}
 use Rattle.heap_page.specs.Stores.{Stand}
 use Rattle.heap_page.proofs.Fillings.{some_get}
 use Rattle.std.specs.List.{All}
 use Rattle.std.specs.Global.{Vec}
 use Rattle.heap_page.specs.Blocks.{byte_lists, item_weight, blocks_of, FitsAlone}
-use Rattle.heap_page.specs.Maps.{HasPages}
 use Rattle.heap_page.proofs.Cut.{are_blocks}
 use Rattle.heap_page.proofs.Counted.{tail_is, tail_fit, some_cut, none_cut, is_cut, all_items, light}
 use Rattle.heap_page.proofs.filling.write_relation.Goals as goal

@@ -1,6 +1,6 @@
-use Rattle.std.proofs.Common.{◌≡◌, ℕ, ◌+◌, ◌*◌, ◌<◌, ◌≤◌, ◌-◌, length, refl, arith, ap, ◌∙◌}
-use Rattle.heap_page.proofs.Pushed.{Known, known, exceeds, not_over, left, still_page}
-use Rattle.heap_page.specs.declared.page.Push.TheVariants.{Pushed, NoRoom}
+use Rattle.std.proofs.Common.{◌+◌, ◌*◌, ◌<◌, ◌≤◌, ◌-◌, length, refl, arith, ap}
+use Rattle.heap_page.proofs.Pushed.{known, exceeds, not_over, left, still_page}
+use Rattle.heap_page.specs.declared.page.Push.TheVariants.{Pushed}
 use Rattle.heap_page.proofs.page.push_item.Goals as goal
 use Rattle.heap_page.proofs.page.push_item.Goals.{then-upper-end-lt4-via-then-upper-end-lt4, then-upper-end-lt4-via-else-upper-end-lt4+then-upper-end}
 

@@ -1,4 +1,4 @@
-use Rattle.std.proofs.Common.{◌<◌, refl, arith}
+use Rattle.std.proofs.Common.{refl, arith}
 use Rattle.heap_page.proofs.tests.a_source_stays_what_it_is.Goals as goal
 
 pub fetches_both-requires-clause-first : goal.fetches_both-requires-clause-first

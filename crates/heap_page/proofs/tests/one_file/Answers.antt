@@ -1,4 +1,4 @@
-use Rattle.std.proofs.Common.{◌≡◌, refl}
+use Rattle.std.proofs.Common.{refl}
 use Rattle.heap_page.proofs.tests.one_file.Goals as goal
 
 pub returns-clause-pages : goal.returns-clause-pages

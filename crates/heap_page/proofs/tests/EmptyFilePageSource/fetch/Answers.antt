@@ -1,4 +1,4 @@
-use Rattle.std.proofs.Common.{◌≡◌, ◌∙◌, ◌<◌, ◌^◌, ℕ, zero, suc, List, [], ◌∷◌, Option, Some, None, refl, sym, ap, arith}
+use Rattle.std.proofs.Common.{◌≡◌, ◌∙◌, ◌<◌, ◌^◌, ℕ, zero, suc, List, [], ◌∷◌, Some, sym, arith}
 use Rattle.std.specs.Prelude.{slice_get}
 use Rattle.heap_page.specs.declared.head.FileKind.TheVariants.{Heap}
 use Rattle.heap_page.specs.declared.map.PageFile.{PageFile}
