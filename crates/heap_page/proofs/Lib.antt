@@ -1,0 +1,11 @@
+mod Parts
+mod Standing
+mod Written
+mod Read
+mod Pushed
+mod Views
+mod Striping
+pub mod Cut
+mod Counted
+mod Found
+mod Fillings

@@ -1,0 +1,7 @@
+pub mod Fields
+pub mod Pages
+pub mod Pushes
+pub mod Maps
+pub mod Blocks
+pub mod Stores
+pub mod Sources

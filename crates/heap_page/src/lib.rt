@@ -1,0 +1,28 @@
+//! Heap pages: their bytes, the files that they make on drives, and the pages of a table.
+#![tactic(auto)]
+
+mod blocks;
+mod errors;
+mod field;
+mod filling;
+mod head;
+mod laws;
+mod map;
+mod page;
+mod reading;
+mod shares;
+mod source;
+#[cfg(test)]
+mod tests;
+mod view;
+
+pub use blocks::{ItemList, pages_of};
+pub use errors::{BadPage, FetchErr, StoreErr};
+pub use filling::write_relation;
+pub use head::{FileKind, check_head};
+pub use laws::{block_laws, page_laws, place_laws};
+pub use map::{FileMap, PageFile};
+pub use page::{Page, Push};
+pub use reading::read_relation_page;
+pub use source::PageSource;
+pub use view::{PageView, read_page};
