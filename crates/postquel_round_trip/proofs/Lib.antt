@@ -1,0 +1,5 @@
+pub mod Strengths
+pub mod Trims
+pub mod Lexing
+pub mod Literals
+pub mod Fixed
