@@ -3,3 +3,5 @@ pub mod Trims
 pub mod Lexing
 pub mod Literals
 pub mod Fixed
+pub mod Valid
+pub mod Expressions
