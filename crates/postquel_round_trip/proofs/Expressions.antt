@@ -170,7 +170,7 @@ NamedAs t s = Named (text_of t.kind) (class.Name s)
 pub name_prints : (t : Token) (s : Soft) → looks t ≡ class.Name s → ValidKind t.kind → Gives (text_of t.kind) Apart (NamedAs t s)
 name_prints t s e h = name_gives (text_of t.kind) (class.Name s) (name_valid t.kind s h e) (name_class t.kind s e)
 
-keep_name : (t n : Token) (s : Soft) → looks t ≡ class.Name s → looks n ≡ class.Name s → {u w : List Token} → Trims u w → Trims (t ∷ u) (n ∷ w)
+pub keep_name : (t n : Token) (s : Soft) → looks t ≡ class.Name s → looks n ≡ class.Name s → {u w : List Token} → Trims u w → Trims (t ∷ u) (n ∷ w)
 keep_name t n s p q x = keep_one t n (class.Name s) (λ e. absurd cc) p q x
 
 dotted_same : {s q : Soft} (v d c : Token) → looks v ≡ class.Name s → looks d ≡ class.Mark sign.Dot → looks c ≡ class.Name q → (ts : List Token) → Both (NamedAs v s) (Both (One (class.Mark sign.Dot)) (NamedAs c q)) ts

@@ -94,6 +94,16 @@ then a b x p y s r q =
 pub means : {P : List ℕ → Type 0} {D E : List Token → Type 0} (a : List ℕ) → ((ts : List Token) → D ts → E ts) → Gives a P D → Gives a P E
 means a f x s r p = let u = x s r p in record { tokens = u.tokens; to = u.to; is = u.is; derives = f u.tokens u.derives; short = u.short; utf8 = u.utf8 }
 
+-- the same text, grouped another way
+pub flat4 : (a b c d : List ℕ) → ((a ++ b) ++ c) ++ d ≡ a ++ (b ++ (c ++ d))
+flat4 a b c d = append_assoc (a ++ b) c d ∙ append_assoc a b (c ++ d)
+
+pub flat5 : (a b c d e : List ℕ) → (((a ++ b) ++ c) ++ d) ++ e ≡ a ++ (b ++ (c ++ (d ++ e)))
+flat5 a b c d e = append_assoc ((a ++ b) ++ c) d e ∙ flat4 a b c (d ++ e)
+
+pub as_grouped : {P : List ℕ → Type 0} {D : List Token → Type 0} (a b : List ℕ) → a ≡ b → Gives b P D → Gives a P D
+as_grouped {P} {D} a b e x = subst (λ (z : List ℕ). Gives z P D) (sym e) x
+
 pub loose : {D : List Token → Type 0} (P : List ℕ → Type 0) (a : List ℕ) → Gives a Any D → Gives a P D
 loose P a x s r p = x s r tt
 

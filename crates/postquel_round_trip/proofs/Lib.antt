@@ -5,3 +5,5 @@ pub mod Literals
 pub mod Fixed
 pub mod Valid
 pub mod Expressions
+pub mod Parts
+pub mod Targets
