@@ -7,3 +7,5 @@ pub mod Valid
 pub mod Expressions
 pub mod Parts
 pub mod Targets
+pub mod Statements
+pub mod Scripts
