@@ -9,3 +9,4 @@ pub mod Parts
 pub mod Targets
 pub mod Statements
 pub mod Scripts
+pub mod Limits
