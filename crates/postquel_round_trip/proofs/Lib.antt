@@ -10,3 +10,6 @@ pub mod Targets
 pub mod Statements
 pub mod Scripts
 pub mod Limits
+pub mod Utf8
+pub mod Pieces
+pub mod Origin
