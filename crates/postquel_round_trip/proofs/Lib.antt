@@ -13,3 +13,4 @@ pub mod Limits
 pub mod Utf8
 pub mod Pieces
 pub mod Origin
+pub mod Round
