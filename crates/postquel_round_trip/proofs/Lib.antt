@@ -14,3 +14,4 @@ pub mod Utf8
 pub mod Pieces
 pub mod Origin
 pub mod Round
+pub mod Again

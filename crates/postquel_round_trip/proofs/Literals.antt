@@ -202,16 +202,16 @@ read_again [] r at n h e = let k : at + 1 ≡ n = omega (arith, e) in ap (λ m. 
 read_again (b ∷ w) r at n h e =
     elim (eqb b 34) as (λ q. eqb b 34 ≡ q → n ≡ at + length (cond (q || eqb b 92) (92 ∷ b ∷ []) (b ∷ []) ++ escaped w) + 1 → body at ((cond (q || eqb b 92) (92 ∷ b ∷ []) (b ∷ []) ++ escaped w) ++ 34 ∷ r) ≡ done (b ∷ w) n) [
       | true ↦ λ p k.
-        let is : b ≡ 34 = eqb-true b 34 p in
-        let F : ℕ → Type 0 = λ c. body at (92 ∷ c ∷ (escaped w ++ 34 ∷ r)) ≡ done (c ∷ w) n in
-        subst F (sym is) (quote_is at (escaped w ++ 34 ∷ r) ∙ ap (with_byte 34) (read_again w r (at + 1 + 1) n h.1 (omega arith)))
+          let is : b ≡ 34 = eqb-true b 34 p in
+          let F : ℕ → Type 0 = λ c. body at (92 ∷ c ∷ (escaped w ++ 34 ∷ r)) ≡ done (c ∷ w) n in
+          subst F (sym is) (quote_is at (escaped w ++ 34 ∷ r) ∙ ap (with_byte 34) (read_again w r (at + 1 + 1) n h.1 (omega arith)))
       | false ↦ λ p k. elim (eqb b 92) as (λ q. eqb b 92 ≡ q → n ≡ at + length (cond q (92 ∷ b ∷ []) (b ∷ []) ++ escaped w) + 1 → body at ((cond q (92 ∷ b ∷ []) (b ∷ []) ++ escaped w) ++ 34 ∷ r) ≡ done (b ∷ w) n) [
-          | true ↦ λ s k.
+        | true ↦ λ s k.
             let is : b ≡ 92 = eqb-true b 92 s in
             let F : ℕ → Type 0 = λ c. body at (92 ∷ c ∷ (escaped w ++ 34 ∷ r)) ≡ done (c ∷ w) n in
             subst F (sym is) (slash_is at (escaped w ++ 34 ∷ r) ∙ ap (with_byte 92) (read_again w r (at + 1 + 1) n h.1 (omega arith)))
-          | false ↦ λ s k. plain_is at b (escaped w ++ 34 ∷ r) p h.0 s ∙ ap (with_byte b) (read_again w r (at + 1) n h.1 (omega arith))
-        ] refl k
+        | false ↦ λ s k. plain_is at b (escaped w ++ 34 ∷ r) p h.0 s ∙ ap (with_byte b) (read_again w r (at + 1) n h.1 (omega arith))
+      ] refl k
     ] refl e
 
 escaped_length : (w : List ℕ) → length (escaped w) ≤ 2 * length w

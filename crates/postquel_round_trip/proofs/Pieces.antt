@@ -155,14 +155,14 @@ escape_stands b z at c len is e =
           let h = head_is z 34 (eqb-true _ _ p) (omega arith) in
           stands_as b z c len 2 (sym long) (behind h.0 is (h.1 ∙ ap (λ x. x ∷ h.0) one) (inl (sym one)))
       | false ↦ λ p k. elim (eqb (slice_index_or z 0 0) 92) as (λ q. eqb (slice_index_or z 0 0) 92 ≡ q → cond q (two 92 2) (Err (what.BadEscape, at)) ≡ two c len → Stands b z c len) [
-          | true ↦ λ s j.
-              let same = same_two 92 2 c len j in
-              let one : 92 ≡ c = same.0 in
-              let long : 2 ≡ len = same.1 in
-              let h = head_is z 92 (eqb-true _ _ s) (omega arith) in
-              stands_as b z c len 2 (sym long) (behind h.0 is (h.1 ∙ ap (λ x. x ∷ h.0) one) (inr (sym one)))
-          | false ↦ λ s j. absurd cc
-        ] refl k
+        | true ↦ λ s j.
+            let same = same_two 92 2 c len j in
+            let one : 92 ≡ c = same.0 in
+            let long : 2 ≡ len = same.1 in
+            let h = head_is z 92 (eqb-true _ _ s) (omega arith) in
+            stands_as b z c len 2 (sym long) (behind h.0 is (h.1 ∙ ap (λ x. x ∷ h.0) one) (inr (sym one)))
+        | false ↦ λ s j. absurd cc
+      ] refl k
     ] refl e
 
 unit_stands : (at b : ℕ) (z : List ℕ) (c len : ℕ) → unit at (b ∷ z) ≡ two c len → Stands b z c len
@@ -171,13 +171,13 @@ unit_stands at b z c len e =
     elim (eqb b 10) as (λ q. eqb b 10 ≡ q → cond q (Err (what.UnclosedText, 0)) (cond (eqb b 92) (cond (eqb (slice_index_or z 0 0) 34) (two 34 2) (cond (eqb (slice_index_or z 0 0) 92) (two 92 2) (Err (what.BadEscape, at)))) (two b 1)) ≡ two c len → Stands b z c len) [
       | true ↦ λ p k. absurd cc
       | false ↦ λ p k. elim (eqb b 92) as (λ q. eqb b 92 ≡ q → cond q (cond (eqb (slice_index_or z 0 0) 34) (two 34 2) (cond (eqb (slice_index_or z 0 0) 92) (two 92 2) (Err (what.BadEscape, at)))) (two b 1) ≡ two c len → Stands b z c len) [
-          | true ↦ λ s j. escape_stands b z at c len (eqb-true b 92 s) j
-          | false ↦ λ s j.
-              let same = same_two b 1 c len j in
-              let one : b ≡ c = same.0 in
-              let long : 1 ≡ len = same.1 in
-              stands_as b z c len 1 (sym long) (plain p s one)
-        ] refl k
+        | true ↦ λ s j. escape_stands b z at c len (eqb-true b 92 s) j
+        | false ↦ λ s j.
+            let same = same_two b 1 c len j in
+            let one : b ≡ c = same.0 in
+            let long : 1 ≡ len = same.1 in
+            stands_as b z c len 1 (sym long) (plain p s one)
+      ] refl k
     ] refl e
 
 done : List ℕ → ℕ → Result (List ℕ × ℕ) Wrong

@@ -34,9 +34,6 @@ use Rattle.postquel_round_trip.proofs.Valid.{Valid, valid_left, valid_right, nam
 
 -- ---- parts that may be absent
 
-
-
-
 abbrev KeptUnique : Bool → List Token → List Token → Type 0
 KeptUnique = Kept (λ b. b) (OrNone false IsUnique)
 
@@ -134,7 +131,6 @@ pub record KeptLine {A : Type 0} (k : Class) (bare : A → A) (D : A → List To
   pub same : bare again ≡ bare a
   pub lines : Line k u ts
 
-
 -- the tokens of a statement between its first and its last
 within : (l r : Token) (a b c d e f : List Token) → List Token
 within l r a b c d e f = a ++ (b ++ l ∷ (c ++ r ∷ (d ++ (e ++ f))))
@@ -176,7 +172,7 @@ statement_same t l r g un k ws rs o ks a b c d e f i1 i2 i3 i4 _ (both (one s j1
       derives = retrieve s m n h j1 x1.derives x2.derives j2 x3.derives j3 x4.derives x5.derives x6.derives j4;
       same = rw (x1.same, x2.same, x3.same, x4.same, x5.same, x6.same) refl;
       lines = subst (λ (x : List Token). Line (class.Key key.Retrieve) (t ∷ x) (s ∷ (p ++ (q ++ m ∷ (y ++ n ∷ (z ++ (v ++ (w ++ h ∷ [])))))))) (within_is l r g a b c d e f)
-      (subst (λ (x : List Token). Line (class.Key key.Retrieve) (t ∷ (within l r a b c d e f ++ g ∷ [])) (s ∷ x)) (within_is m n h p q y z v w) whole);
+          (subst (λ (x : List Token). Line (class.Key key.Retrieve) (t ∷ (within l r a b c d e f ++ g ∷ [])) (s ∷ x)) (within_is m n h p q y z v w) whole);
     }
 
 key_tail : (ks : List KeyForm) (r : List ℕ) → Apart ((keys_text ks ++ codes " \\g\n") ++ r)
