@@ -44,3 +44,6 @@ pub fn reread(alloc: Global, script: &Script) -> Result<Script, AllocError>
         Err(TextErr::Fault { .. }) => unreachable!(),
     }
 }
+
+#[cfg(test)]
+mod tests;
