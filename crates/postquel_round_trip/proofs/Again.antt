@@ -11,7 +11,7 @@ use Rattle.postquel.specs.Program.{Program}
 use Rattle.postquel.specs.Reading.{IsReading, Tells}
 use Rattle.postquel.proofs.OneReading.{one_reading}
 use Rattle.postquel_round_trip.specs.Bare.{bare}
-use Rattle.postquel_round_trip.specs.RoundTrip.{IsRead, Reads, PrintsBack}
+use Rattle.postquel_round_trip.specs.RoundTrip.{IsRead}
 use Rattle.postquel_round_trip.proofs.Round.{round_trip}
 
 pub prints_short : (p : Program) (text : List ℕ) → IsRead p → text ≡ script_text p → length text < 2 ^ 32 - 1

@@ -1,16 +1,14 @@
 -- A printed expression is lexed to tokens that are the same expression, in the same parentheses or in fewer.
-use Rattle.std.proofs.Common.{◌≡◌, ◌≢◌, ℕ, suc, ◌+◌, ◌<◌, ◌≤◌, ◌^◌, ℤ, pos, Bool, true, false, cond, ltb, List, [], ◌∷◌, ◌++◌, Option, Some, None, refl, sym, ap, subst, ◌∙◌, append_assoc, arith}
+use Rattle.std.proofs.Common.{◌≡◌, ◌≢◌, ℕ, ◌<◌, ◌≤◌, ℤ, pos, Bool, true, false, cond, ltb, List, [], ◌∷◌, ◌++◌, Some, refl, sym, ap, subst, ◌∙◌, append_assoc, arith}
 use Rattle.std.proofs.lemmas.List.{append-nil}
 use Rattle.std.proofs.lemmas.Bool.{ltb-true, ltb-false}
 use Rattle.std.specs.Prelude.{codes}
 use Rattle.std.specs.Fmt.{signed_decimal}
 use Rattle.postquel_tokens.specs.declared.fault.Spot.{Spot}
 use Rattle.postquel_tokens.specs.declared.token.Token.{Token}
-use Rattle.postquel_tokens.specs.declared.token.TokenKind.TheVariants as kind
 use Rattle.postquel_tokens.specs.declared.token.Sign.TheVariants as sign
 use Rattle.postquel_tokens.specs.declared.form.Ident.{Ident}
 use Rattle.postquel_tokens.specs.declared.form.UnaryOp.{UnaryOp}
-use Rattle.postquel_tokens.specs.declared.form.UnaryOp.TheVariants as unary
 use Rattle.postquel_tokens.specs.declared.form.BinaryOp.{BinaryOp}
 use Rattle.postquel_tokens.specs.declared.form.BinaryOp.TheVariants as binary
 use Rattle.postquel_tokens.specs.Forms.{Phrase}
@@ -24,13 +22,13 @@ use Rattle.postquel.specs.declared.level.Level.TheVariants as level
 use Rattle.postquel.specs.Class.{looks}
 use Rattle.postquel.specs.Grammar.{number_of, text_of, ident_of}
 use Rattle.postquel.specs.Level.{next, before, between}
-use Rattle.postquel.specs.Print.{strength, least_left, least_right, least_behind, symbol, prefix_symbol, wrapped, quoted, truth_text, null_text, dotted_text, unary_text, binary_text, is_null_text, text}
-use Rattle.postquel.specs.Syntax.{has_chains, Derives, number, word, truth, falsity, dotted, parens, tighter, prefixed, compared, null, not_null, chained}
+use Rattle.postquel.specs.Print.{strength, least_left, least_right, least_behind, symbol, prefix_symbol, wrapped, quoted, truth_text, null_text, dotted_text, text}
+use Rattle.postquel.specs.Syntax.{Derives, number, word, truth, falsity, dotted, parens, tighter, prefixed, compared, null, not_null, chained}
 use Rattle.postquel_round_trip.specs.Bare.{nowhere, bare_ident, bare_phrase}
 use Rattle.postquel_round_trip.proofs.Strengths.{bind, binds, prefix_binds, left_of, own, own_is, left_is, right_is, behind_is, lift, bind_low, bind_high, bind_next, before_binds, between_binds, chain_left}
 use Rattle.postquel_round_trip.proofs.Trims.{Trims, none, keep, shed, trims_append}
-use Rattle.postquel_round_trip.proofs.Lexing.{Gives, Any, Apart, Both, both, One, one, then, means, loose}
-use Rattle.postquel_round_trip.proofs.Literals.{IsName, Named, named, Counted, counted, Worded, worded_as, name_gives, number_gives, word_gives}
+use Rattle.postquel_round_trip.proofs.Lexing.{Gives, Apart, Both, both, One, one, then, means, loose}
+use Rattle.postquel_round_trip.proofs.Literals.{Named, named, Counted, counted, Worded, worded_as, name_gives, number_gives, word_gives}
 use Rattle.postquel_round_trip.proofs.Fixed.{left_gives, right_gives, dot_gives, is_gives, not_gives, null_gives, true_gives, false_gives, class_at, prefix_class, operator_gives, prefix_gives, between_at, before_at, class_no_go, prefix_no_go, between_class, before_class}
 use Rattle.postquel_round_trip.proofs.Valid.{Valid, ValidKind, valid_left, valid_right, number_valid, word_valid, name_valid, name_class}
 

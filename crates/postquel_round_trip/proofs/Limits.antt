@@ -1,7 +1,6 @@
 -- What passes no limit passes none where tokens are left out.
-use Rattle.std.proofs.Common.{◌≡◌, ◌≢◌, ℕ, zero, suc, ◌+◌, ◌*◌, ◌<◌, ◌≤◌, Bool, true, false, ◌&&◌, cond, leb, eqb, List, [], ◌∷◌, ◌++◌, length, Option, Some, None, refl, sym, ap, subst, ◌∙◌, append_assoc, length-append, arith}
+use Rattle.std.proofs.Common.{◌≡◌, ◌≢◌, ℕ, suc, ◌+◌, ◌*◌, ◌<◌, ◌≤◌, true, false, ◌&&◌, cond, leb, eqb, List, [], ◌∷◌, ◌++◌, length, Some, None, refl, sym, ap, subst, ◌∙◌, length-append, arith}
 use Rattle.std.proofs.lemmas.Bool.{lt-leb, leb-false, eqb-true}
-use Rattle.postquel_tokens.specs.declared.fault.What.{What}
 use Rattle.postquel_tokens.specs.declared.fault.What.TheVariants as what
 use Rattle.postquel_tokens.specs.declared.token.Token.{Token}
 use Rattle.postquel_tokens.specs.declared.token.Sign.TheVariants as sign
@@ -14,7 +13,7 @@ use Rattle.postquel.specs.Limits.{begins, barred, after, room, room_by}
 use Rattle.postquel.specs.Start.{none_yet}
 use Rattle.postquel.specs.Syntax.{nest_step, opt_then, nest}
 use Rattle.postquel.proofs.Good.{nest-append, nest_both}
-use Rattle.postquel_round_trip.proofs.Trims.{Trims, NoGo, trims_length, trims_nest, trims_within, opt_some}
+use Rattle.postquel_round_trip.proofs.Trims.{NoGo, trims_length, trims_nest, trims_within, opt_some}
 use Rattle.postquel_round_trip.proofs.Statements.{Line, line}
 use Rattle.postquel_round_trip.proofs.Scripts.{Lines, empty_lines, next_line, MachineLine, no_machine, machine_line, ScriptLines, script_lines}
 

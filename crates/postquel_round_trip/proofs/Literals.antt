@@ -1,27 +1,25 @@
 -- Names, numbers and texts are lexed as what they are printed from.
-use Rattle.std.proofs.Common.{◌≡◌, ◌≢◌, ◌⊎◌, ℕ, zero, suc, ◌+◌, ◌-◌, ◌*◌, ◌^◌, ◌<◌, ◌≤◌, ◌/◌, ◌%◌, ℤ, pos, Bool, true, false, ◌||◌, ◌&&◌, cond, eqb, ltb, leb, List, [], ◌∷◌, ◌++◌, length, take, drop, Option, Some, None, Result, Ok, Err, refl, sym, ap, subst, ◌∙◌, inl, inr, append_assoc, length-append, arith}
-use Rattle.std.proofs.lemmas.List.{append-nil, take_at}
-use Rattle.std.proofs.lemmas.Bool.{ltb-false, lt-ltb, le-ltb, lt-leb, eqb-true}
+use Rattle.std.proofs.Common.{◌≡◌, ℕ, suc, ◌+◌, ◌-◌, ◌*◌, ◌^◌, ◌<◌, ◌≤◌, ◌/◌, ◌%◌, ℤ, pos, Bool, true, false, ◌||◌, cond, eqb, ltb, leb, List, [], ◌∷◌, ◌++◌, length, take, Result, Ok, Err, refl, sym, ap, subst, ◌∙◌, append_assoc, length-append, arith}
+use Rattle.std.proofs.lemmas.List.{take_at}
+use Rattle.std.proofs.lemmas.Bool.{lt-ltb, le-ltb, lt-leb, eqb-true}
 use Rattle.std.proofs.lemmas.Fmt.{decimal_by_steps, length-decimal-le, IsAscii-decimal}
 use Rattle.std.proofs.lemmas.Str.{IsUtf8-append, IsUtf8-from_ascii}
-use Rattle.std.specs.Prelude.{fold, slice_index_or, codes}
+use Rattle.std.specs.Prelude.{fold, slice_index_or}
 use Rattle.std.specs.Fmt.{decimal, signed_decimal}
-use Rattle.std.specs.List.{prefix_len, list_all}
+use Rattle.std.specs.List.{list_all}
 use Rattle.std.specs.Str.{IsUtf8}
 use Rattle.postquel_tokens.specs.declared.fault.Spot.{Spot}
 use Rattle.postquel_tokens.specs.declared.fault.What.TheVariants as what
 use Rattle.postquel_tokens.specs.declared.token.Token.{Token}
-use Rattle.postquel_tokens.specs.declared.token.TokenKind.{TokenKind}
 use Rattle.postquel_tokens.specs.declared.token.TokenKind.TheVariants as kind
 use Rattle.postquel_tokens.specs.declared.piece.Run.TheVariants as run
-use Rattle.postquel_tokens.specs.Lex.{Piece, Wrong, worded, body_from, body, with_byte, unit, then_body, value, number as number_piece, is_in, is_blank, run_len, name, piece, mark, after, Tokens, prepend, behind, tokens_from}
+use Rattle.postquel_tokens.specs.Lex.{Piece, Wrong, worded, body, with_byte, unit, value, number as number_piece, is_in, name, piece, mark, after, prepend, tokens_from}
 use Rattle.postquel.specs.declared.class.Class.{Class}
 use Rattle.postquel.specs.declared.class.Class.TheVariants as class
-use Rattle.postquel.specs.declared.class.Soft.{Soft}
 use Rattle.postquel.specs.Class.{class_of, looks}
 use Rattle.postquel.specs.Grammar.{number_of, text_of}
 use Rattle.postquel.specs.Print.{escaped, quoted}
-use Rattle.postquel_round_trip.proofs.Lexing.{in_front, front_one, token, Gives, Any, Apart, One, one, no_blank, and_true, low_utf8, run_is, piece_first}
+use Rattle.postquel_round_trip.proofs.Lexing.{front_one, token, Gives, Any, Apart, One, one, no_blank, and_true, low_utf8, run_is, piece_first}
 
 -- ---- names
 

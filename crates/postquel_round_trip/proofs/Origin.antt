@@ -1,11 +1,11 @@
 -- The tokens of a text are valid.
-use Rattle.std.proofs.Common.{◌≡◌, ◌≢◌, ℕ, zero, suc, ◌+◌, ◌-◌, ◌<◌, Bool, true, false, ◌||◌, cond, eqb, List, [], ◌∷◌, drop, Result, Ok, Err, refl, sym, ap, subst, ◌∙◌, arith}
+use Rattle.std.proofs.Common.{◌≡◌, ℕ, zero, suc, ◌-◌, ◌<◌, Bool, true, false, cond, List, [], ◌∷◌, drop, Ok, Err, refl, subst, arith}
 use Rattle.std.proofs.lemmas.Str.{IsUtf8-from_is_utf8}
 use Rattle.std.specs.Str.{IsUtf8, is_utf8}
 use Rattle.postquel_tokens.specs.declared.fault.Spot.{Spot}
 use Rattle.postquel_tokens.specs.declared.token.Token.{Token}
 use Rattle.postquel_tokens.specs.declared.token.TokenKind.{TokenKind}
-use Rattle.postquel_tokens.specs.Lex.{Piece, Wrong, piece, is_blank, after, start, Tokens, prepend, behind, tokens_from, tokens_of, lex_of}
+use Rattle.postquel_tokens.specs.Lex.{Piece, piece, is_blank, after, start, Tokens, prepend, behind, tokens_from, tokens_of, lex_of}
 use Rattle.postquel_round_trip.proofs.Lexing.{token}
 use Rattle.postquel_round_trip.proofs.Valid.{Valid, ValidKind}
 use Rattle.postquel_round_trip.proofs.Utf8.{tail_utf8}

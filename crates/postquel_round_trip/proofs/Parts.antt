@@ -1,5 +1,5 @@
 -- Lists with commas, and parts that may be absent, are read again where their items are.
-use Rattle.std.proofs.Common.{◌≡◌, ℕ, List, [], ◌∷◌, ◌++◌, refl, sym, ap, subst, ◌∙◌}
+use Rattle.std.proofs.Common.{◌≡◌, ℕ, List, [], ◌∷◌, ◌++◌, refl, ap, ◌∙◌}
 use Rattle.std.specs.Prelude.{codes, map}
 use Rattle.postquel_tokens.specs.declared.token.Token.{Token}
 use Rattle.postquel_tokens.specs.declared.token.Sign.TheVariants as sign
@@ -7,8 +7,8 @@ use Rattle.postquel.specs.declared.class.Class.TheVariants as class
 use Rattle.postquel.specs.Class.{looks}
 use Rattle.postquel.specs.Parts.{More, none, more, Listed, listed}
 use Rattle.postquel.specs.Print.{further, joined}
-use Rattle.postquel_round_trip.proofs.Trims.{Trims, none as no_tokens, keep, trims_append}
-use Rattle.postquel_round_trip.proofs.Lexing.{Gives, Any, Apart, Both, both, One, one, then, means, nothing}
+use Rattle.postquel_round_trip.proofs.Trims.{Trims, none as no_tokens, trims_append}
+use Rattle.postquel_round_trip.proofs.Lexing.{Gives, Apart, Both, both, One, one, then, means, nothing}
 use Rattle.postquel_round_trip.proofs.Fixed.{comma_gives}
 use Rattle.postquel_round_trip.proofs.Expressions.{keep_one}
 use Rattle.postquel_round_trip.proofs.Valid.{Valid, valid_left, valid_right}

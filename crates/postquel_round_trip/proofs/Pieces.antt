@@ -1,8 +1,8 @@
 -- What is read in front of a text is a valid token, and UTF-8 is left behind it.
-use Rattle.std.proofs.Common.{◌≡◌, ◌≢◌, ◌⊎◌, ℕ, zero, suc, ◌+◌, ◌-◌, ◌*◌, ◌^◌, ◌<◌, ◌≤◌, ℤ, pos, Bool, true, false, ◌||◌, ◌&&◌, cond, eqb, ltb, leb, List, [], ◌∷◌, ◌++◌, length, take, drop, Option, Some, None, Result, Ok, Err, refl, sym, ap, subst, ◌∙◌, inl, inr, append_assoc, length-append, arith}
-use Rattle.std.proofs.lemmas.Bool.{eqb-true, leb-false, ltb-true, ltb-false}
+use Rattle.std.proofs.Common.{◌≡◌, ◌⊎◌, ℕ, zero, suc, ◌+◌, ◌-◌, ◌^◌, ◌<◌, ◌≤◌, pos, Bool, true, false, ◌||◌, ◌&&◌, cond, eqb, ltb, leb, List, [], ◌∷◌, ◌++◌, length, take, drop, Result, Ok, Err, refl, sym, ap, subst, ◌∙◌, inl, inr, append_assoc, length-append, arith}
+use Rattle.std.proofs.lemmas.Bool.{eqb-true, leb-false, ltb-false}
 use Rattle.std.proofs.lemmas.List.{drop_at, length-take}
-use Rattle.std.specs.Prelude.{fold, slice_index_or}
+use Rattle.std.specs.Prelude.{slice_index_or}
 use Rattle.std.specs.List.{prefix_len, list_all}
 use Rattle.std.specs.Str.{IsUtf8}
 use Rattle.postquel_tokens.specs.declared.fault.What.TheVariants as what
@@ -11,11 +11,11 @@ use Rattle.postquel_tokens.specs.declared.token.Sign.TheVariants as sign
 use Rattle.postquel_tokens.specs.declared.token.TokenKind.{TokenKind}
 use Rattle.postquel_tokens.specs.declared.token.TokenKind.TheVariants as kind
 use Rattle.postquel_tokens.specs.declared.piece.Run.TheVariants as run
-use Rattle.postquel_tokens.specs.Lex.{Piece, Wrong, worded, body_from, body, with_byte, unit, then_body, value, number, is_in, run_len, name, piece, mark, marked}
+use Rattle.postquel_tokens.specs.Lex.{Piece, Wrong, worded, body_from, body, with_byte, unit, then_body, value, number, is_in, name, piece, mark, marked}
 use Rattle.postquel.specs.Print.{escaped}
 use Rattle.postquel_round_trip.proofs.Lexing.{and_true}
-use Rattle.postquel_round_trip.proofs.Literals.{NoFeed, IsName, IsWord}
-use Rattle.postquel_round_trip.proofs.Valid.{IsNumber, ValidKind}
+use Rattle.postquel_round_trip.proofs.Literals.{NoFeed}
+use Rattle.postquel_round_trip.proofs.Valid.{ValidKind}
 use Rattle.postquel_round_trip.proofs.Utf8.{before_ascii, behind_ascii, tail_utf8, tail_second, tail_run}
 
 -- what may stand in front of the bytes behind the first

@@ -1,5 +1,5 @@
 -- What is read, printed and read again is the same but for places.
-use Rattle.std.proofs.Common.{◌≡◌, ◌≢◌, ℕ, ◌+◌, ◌-◌, ◌*◌, ◌^◌, ◌<◌, ◌≤◌, List, [], ◌∷◌, ◌++◌, length, Some, None, Result, Ok, Err, refl, sym, ap, subst, ◌∙◌, length-append, arith}
+use Rattle.std.proofs.Common.{◌≡◌, ◌≢◌, ℕ, ◌≤◌, List, [], ◌∷◌, ◌++◌, length, Some, Ok, refl, sym, ap, subst, ◌∙◌, length-append, arith}
 use Rattle.std.proofs.lemmas.List.{append-nil}
 use Rattle.postquel_tokens.specs.declared.token.Token.{Token}
 use Rattle.postquel_tokens.specs.declared.token.TokenKind.TheVariants as kind
@@ -8,16 +8,15 @@ use Rattle.postquel_tokens.proofs.Whole.{lex_good}
 use Rattle.postquel.specs.Limits.{room}
 use Rattle.postquel.specs.Print.{script_text}
 use Rattle.postquel.specs.Program.{Program}
-use Rattle.postquel.specs.Reading.{IsText, Free, Whole, IsLexed}
+use Rattle.postquel.specs.Reading.{Free, Whole}
 use Rattle.postquel.specs.Start.{none_yet}
 use Rattle.postquel.specs.Statement.{IsScript}
 use Rattle.postquel.specs.Syntax.{nest}
 use Rattle.postquel.proofs.Lexed.{lexed_text}
-use Rattle.postquel_round_trip.specs.Bare.{bare}
-use Rattle.postquel_round_trip.specs.RoundTrip.{Reads, IsRead, PrintsBack, RoundTrip}
-use Rattle.postquel_round_trip.proofs.Lexing.{in_front, token}
+use Rattle.postquel_round_trip.specs.RoundTrip.{PrintsBack, RoundTrip}
+use Rattle.postquel_round_trip.proofs.Lexing.{token}
 use Rattle.postquel_round_trip.proofs.Limits.{Unbarred, to_unbarred, from_unbarred, script_passed, script_no_deeper, script_length}
-use Rattle.postquel_round_trip.proofs.Scripts.{ScriptLines, KeptScript, script_prints}
+use Rattle.postquel_round_trip.proofs.Scripts.{script_prints}
 use Rattle.postquel_round_trip.proofs.Valid.{Valid, valid_left}
 use Rattle.postquel_round_trip.proofs.Origin.{lexed_valid}
 

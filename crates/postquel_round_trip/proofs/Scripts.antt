@@ -1,5 +1,5 @@
 -- Whole scripts are read again, line by line.
-use Rattle.std.proofs.Common.{◌≡◌, ◌≢◌, ℕ, List, [], ◌∷◌, ◌++◌, refl, sym, ap, subst, ◌∙◌}
+use Rattle.std.proofs.Common.{◌≡◌, List, [], ◌∷◌, ◌++◌, refl, ap, ◌∙◌}
 use Rattle.std.specs.Prelude.{codes, map}
 use Rattle.postquel_tokens.specs.declared.token.Token.{Token}
 use Rattle.postquel_tokens.specs.declared.token.Sign.TheVariants as sign
@@ -11,14 +11,13 @@ use Rattle.postquel.specs.Class.{looks}
 use Rattle.postquel.specs.Parts.{OrNone, absent, present, Listed, listed}
 use Rattle.postquel.specs.Print.{joined, step_text, sentence_text, sentences_text, machine_text, script_text}
 use Rattle.postquel.specs.Program.{Program}
-use Rattle.postquel.specs.Statement.{IsStep, IsStatement, IsMachine, machine, AreStatements, empty, next, IsScript, script}
+use Rattle.postquel.specs.Statement.{IsStep, IsMachine, machine, AreStatements, empty, next, IsScript, script}
 use Rattle.postquel_round_trip.specs.Bare.{bare_step, bare_sentence, bare}
-use Rattle.postquel_round_trip.proofs.Trims.{Trims}
-use Rattle.postquel_round_trip.proofs.Lexing.{Gives, Any, Apart, Both, both, One, one, then, means, loose, nothing}
+use Rattle.postquel_round_trip.proofs.Lexing.{Gives, Any, Both, both, One, one, then, means, nothing}
 use Rattle.postquel_round_trip.proofs.Fixed.{go_gives, machine_gives}
 use Rattle.postquel_round_trip.proofs.Parts.{Kept, listed_prints}
 use Rattle.postquel_round_trip.proofs.Targets.{step_prints}
-use Rattle.postquel_round_trip.proofs.Statements.{Line, line, KeptLine, KeptStatement, statement_prints}
+use Rattle.postquel_round_trip.proofs.Statements.{Line, line, KeptStatement, statement_prints}
 use Rattle.postquel_round_trip.proofs.Valid.{Valid, valid_left, valid_right}
 
 -- ---- the statements

@@ -1,5 +1,5 @@
 -- Statements, the machine line and scripts are read again.
-use Rattle.std.proofs.Common.{◌≡◌, ◌≢◌, ℕ, Bool, true, false, List, [], ◌∷◌, ◌++◌, Option, Some, None, refl, sym, ap, subst, ◌∙◌, append_assoc}
+use Rattle.std.proofs.Common.{◌≡◌, ℕ, Bool, true, false, List, [], ◌∷◌, ◌++◌, Option, Some, None, refl, ap, subst, ◌∙◌, append_assoc}
 use Rattle.std.specs.Prelude.{codes, map}
 use Rattle.std.specs.Option.{option_map}
 use Rattle.postquel_tokens.specs.declared.token.Token.{Token}
@@ -8,7 +8,6 @@ use Rattle.postquel_tokens.specs.declared.form.Ident.{Ident}
 use Rattle.postquel_tokens.specs.declared.form.RangeForm.{RangeForm}
 use Rattle.postquel_tokens.specs.declared.form.KeyForm.{KeyForm}
 use Rattle.postquel_tokens.specs.declared.form.IntoForm.{IntoForm}
-use Rattle.postquel_tokens.specs.declared.form.StepForm.{StepForm}
 use Rattle.postquel_tokens.specs.Forms.{Phrase, Wish, Condition, Sentence}
 use Rattle.postquel.specs.declared.class.Class.{Class}
 use Rattle.postquel.specs.declared.class.Class.TheVariants as class
@@ -18,18 +17,16 @@ use Rattle.postquel.specs.declared.level.Level.TheVariants as level
 use Rattle.postquel.specs.Class.{looks}
 use Rattle.postquel.specs.Grammar.{text_of, ident_of}
 use Rattle.postquel.specs.Parts.{OrNone, absent, present, Listed, listed}
-use Rattle.postquel.specs.Print.{text, joined, wish_text, range_text, key_text, step_text, unique_text, kept_text, ranges_text, test_text, keys_text, sentence_text, sentences_text, machine_text, script_text}
-use Rattle.postquel.specs.Program.{Program}
-use Rattle.postquel.specs.Statement.{IsTarget, IsRange, IsSortKey, IsStep, IsUnique, unique, IsKept, kept, AreRanges, ranges, IsTest, test, AreKeys, keys, IsStatement, retrieve, IsMachine, machine, AreStatements, empty, next, IsScript, script}
-use Rattle.postquel.specs.Syntax.{Derives}
-use Rattle.postquel_round_trip.specs.Bare.{nowhere, bare_ident, bare_phrase, bare_wish, bare_range, bare_key, bare_into, bare_condition, bare_step, bare_sentence, bare}
-use Rattle.postquel_round_trip.proofs.Trims.{Trims, none, keep, trims_append}
-use Rattle.postquel_round_trip.proofs.Lexing.{Gives, Any, Apart, Both, both, One, one, then, means, loose, nothing, flat4, as_grouped}
-use Rattle.postquel_round_trip.proofs.Literals.{Named, named, name_blank_gives}
-use Rattle.postquel_round_trip.proofs.Fixed.{left_gives, right_gives, go_gives, retrieve_gives, machine_gives, unique_gives, into_gives, from_gives, where_gives, sort_gives, by_gives}
+use Rattle.postquel.specs.Print.{text, joined, wish_text, range_text, key_text, unique_text, kept_text, ranges_text, test_text, keys_text, sentence_text}
+use Rattle.postquel.specs.Statement.{IsTarget, IsRange, IsSortKey, IsUnique, unique, IsKept, kept, AreRanges, ranges, IsTest, test, AreKeys, keys, IsStatement, retrieve}
+use Rattle.postquel_round_trip.specs.Bare.{nowhere, bare_wish, bare_range, bare_key, bare_into, bare_condition, bare_sentence}
+use Rattle.postquel_round_trip.proofs.Trims.{Trims, none, trims_append}
+use Rattle.postquel_round_trip.proofs.Lexing.{Gives, Any, Apart, Both, both, One, one, then, means, nothing, flat4, as_grouped}
+use Rattle.postquel_round_trip.proofs.Literals.{named, name_blank_gives}
+use Rattle.postquel_round_trip.proofs.Fixed.{left_gives, right_gives, go_gives, retrieve_gives, unique_gives, into_gives, from_gives, where_gives, sort_gives, by_gives}
 use Rattle.postquel_round_trip.proofs.Expressions.{Operand, NamedAs, keep_one, keep_name, ident_same, whole_prints}
 use Rattle.postquel_round_trip.proofs.Parts.{Kept, listed_prints}
-use Rattle.postquel_round_trip.proofs.Targets.{target_prints, range_prints, key_prints, step_prints}
+use Rattle.postquel_round_trip.proofs.Targets.{target_prints, range_prints, key_prints}
 use Rattle.postquel_round_trip.proofs.Valid.{Valid, valid_left, valid_right, name_valid, name_class}
 
 -- ---- parts that may be absent

@@ -1,5 +1,5 @@
 -- The strength of an operator is that of its level.
-use Rattle.std.proofs.Common.{◌≡◌, ◌≢◌, ◌⊎◌, ℕ, zero, suc, ◌+◌, ◌-◌, ◌<◌, ◌≤◌, Bool, true, false, cond, ltb, List, [], ◌∷◌, ◌++◌, Option, Some, None, refl, sym, ap, subst, ◌∙◌, arith}
+use Rattle.std.proofs.Common.{◌≡◌, ℕ, ◌≤◌, true, List, Some, refl, ap, arith}
 use Rattle.postquel_tokens.specs.declared.token.Token.{Token}
 use Rattle.postquel_tokens.specs.declared.token.Sign.TheVariants as sign
 use Rattle.postquel_tokens.specs.declared.form.UnaryOp.{UnaryOp}
@@ -15,7 +15,7 @@ use Rattle.postquel.specs.declared.level.Level.{Level}
 use Rattle.postquel.specs.declared.level.Level.TheVariants as level
 use Rattle.postquel.specs.Level.{next, before, between}
 use Rattle.postquel.specs.Print.{strength, least_left, least_right, least_behind}
-use Rattle.postquel.specs.Syntax.{has_chains, is_atom, Derives, number, word, truth, falsity, dotted, parens, tighter, prefixed, compared, null, not_null, chained}
+use Rattle.postquel.specs.Syntax.{has_chains, Derives, tighter}
 
 -- how tightly a level binds
 abbrev pub bind : Level → ℕ

@@ -1,5 +1,5 @@
 -- Targets, ranges, sort keys and steps are read again.
-use Rattle.std.proofs.Common.{◌≡◌, ◌≢◌, ℕ, ℤ, pos, Bool, true, false, List, [], ◌∷◌, ◌++◌, Some, refl, sym, ap, subst, ◌∙◌, append_assoc}
+use Rattle.std.proofs.Common.{◌≡◌, ◌≢◌, ℕ, ℤ, Bool, true, false, List, [], ◌∷◌, ◌++◌, Some, refl, sym, ap, subst, ◌∙◌, append_assoc}
 use Rattle.std.specs.Prelude.{codes}
 use Rattle.std.specs.Fmt.{signed_decimal}
 use Rattle.std.proofs.lemmas.List.{append-nil}
@@ -21,15 +21,15 @@ use Rattle.postquel.specs.Grammar.{number_of, text_of, ident_of}
 use Rattle.postquel.specs.Parts.{OrNone, absent, present}
 use Rattle.postquel.specs.Print.{wish_text, range_text, key_text, step_text, text}
 use Rattle.postquel.specs.Statement.{IsTarget, titled, folded, every, column, IsRange, range, IsDirection, up, down, IsSortKey, sort_key, IsStep, step}
-use Rattle.postquel.specs.Syntax.{Derives, nest_step}
+use Rattle.postquel.specs.Syntax.{nest_step}
 use Rattle.postquel_round_trip.specs.Bare.{nowhere, bare_ident, bare_phrase, bare_wish, bare_range, bare_key, bare_step}
-use Rattle.postquel_round_trip.proofs.Trims.{Trims, none, keep, omit, trims_append}
+use Rattle.postquel_round_trip.proofs.Trims.{Trims, none, omit, trims_append}
 use Rattle.postquel_round_trip.proofs.Lexing.{Gives, Any, Apart, Both, both, One, one, then, means, loose, flat5, as_grouped}
-use Rattle.postquel_round_trip.proofs.Literals.{Named, named, Counted, counted, number_gives}
+use Rattle.postquel_round_trip.proofs.Literals.{named, Counted, counted, number_gives}
 use Rattle.postquel_round_trip.proofs.Fixed.{left_gives, right_gives, dot_gives, equal_gives, all_gives, in_gives, using_gives, more_gives, after_gives}
 use Rattle.postquel_round_trip.proofs.Expressions.{Operand, NamedAs, keep_one, keep_name, name_prints, dotted_gives, ident_same, whole_prints}
 use Rattle.postquel_round_trip.proofs.Parts.{Kept}
-use Rattle.postquel_round_trip.proofs.Valid.{Valid, ValidKind, valid_left, valid_right, number_valid}
+use Rattle.postquel_round_trip.proofs.Valid.{Valid, ValidKind, valid_left, number_valid}
 
 abbrev KeptTarget : Wish → List Token → List Token → Type 0
 KeptTarget = Kept bare_wish IsTarget

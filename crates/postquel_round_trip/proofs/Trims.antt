@@ -1,6 +1,5 @@
 -- Tokens of which some are left out: pairs of parentheses, and others that neither open nor close.
-use Rattle.std.proofs.Common.{◌≡◌, ◌≢◌, ℕ, zero, suc, ◌+◌, ◌≤◌, List, [], ◌∷◌, ◌++◌, length, Option, Some, None, refl, sym, ap, subst, ◌∙◌, append_assoc, length-append, arith}
-use Rattle.std.proofs.lemmas.List.{append-nil}
+use Rattle.std.proofs.Common.{◌≡◌, ◌≢◌, ℕ, zero, suc, ◌≤◌, List, [], ◌∷◌, ◌++◌, length, Option, Some, None, refl, sym, ap, subst, ◌∙◌, append_assoc, length-append, arith}
 use Rattle.postquel_tokens.specs.declared.token.Token.{Token}
 use Rattle.postquel_tokens.specs.declared.token.Sign.TheVariants as sign
 use Rattle.postquel.specs.declared.class.Class.{Class}

@@ -1,5 +1,5 @@
 -- Scripts without the places of their parts.
-use Rattle.std.specs.Prelude.{List, map, Option, Some, None}
+use Rattle.std.specs.Prelude.{map}
 use Rattle.std.specs.Option.{option_map}
 use Rattle.postquel_tokens.specs.declared.fault.Spot.{Spot}
 use Rattle.postquel_tokens.specs.declared.form.Ident.{Ident}

@@ -1,4 +1,4 @@
-use Rattle.std.proofs.Common.{◌≡◌, List, ℕ, ◌∙◌}
+use Rattle.std.proofs.Common.{◌∙◌}
 use Rattle.postquel.specs.Program.{program_of}
 use Rattle.postquel_round_trip.proofs.Again.{prints_short, lexer_gives_no_fault}
 use Rattle.postquel_round_trip.proofs.printed_tokens.Goals as goal

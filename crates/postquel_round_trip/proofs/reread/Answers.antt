@@ -1,4 +1,4 @@
-use Rattle.std.proofs.Common.{◌≡◌, List, ℕ, ◌∙◌, Err, Ok, ap}
+use Rattle.std.proofs.Common.{ap}
 use Rattle.std.specs.Result.{result_map_both}
 use Rattle.postquel.specs.Program.{program_of}
 use Rattle.postquel_round_trip.proofs.Again.{parser_tells_same, parser_tells_no_fault}
