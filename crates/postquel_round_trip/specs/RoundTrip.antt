@@ -18,7 +18,8 @@ pub record IsRead (script : Program) : Type 0 where
   pub text : List ℕ
   pub reads : Reads text script
 
--- the script prints as a text, short enough for places, that is read as the same script but for places
+-- The script prints as a text that is read as the same script but for places. The text is short
+-- enough to be read: each line and column is a number below 2 ^ 32.
 pub record PrintsBack (script : Program) : Type 0 where
   pub again : Program
   pub short : length (script_text script) < 2 ^ 32 - 1

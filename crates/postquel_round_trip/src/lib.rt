@@ -31,7 +31,8 @@ fn printed_tokens(alloc: Global, script: &Script) -> Result<TokenList, AllocErro
 }
 
 /// The script that the printed text of a script is read as: the same one, but for its places. The
-/// script that is given must have been read from some text. Want of memory is the one error.
+/// script that is given must have been read by `lex` and `parse` from some text. Want of memory is
+/// the one error.
 pub fn reread(alloc: Global, script: &Script) -> Result<Script, AllocError>
     requires { IsRead (program_of script.now) }
     ensures reads { IfOk result (λ again. Reads (script_text (program_of script.now)) (program_of again)) }
