@@ -1,0 +1,17 @@
+pub mod Strengths
+pub mod Trims
+pub mod Lexing
+pub mod Literals
+pub mod Fixed
+pub mod Valid
+pub mod Expressions
+pub mod Parts
+pub mod Targets
+pub mod Statements
+pub mod Scripts
+pub mod Limits
+pub mod Utf8
+pub mod Pieces
+pub mod Origin
+pub mod Round
+pub mod Again
