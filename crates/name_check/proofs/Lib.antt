@@ -1,0 +1,15 @@
+pub mod Places
+pub mod Scope
+pub mod Typed
+pub mod Ranged
+pub mod Agreed
+pub mod Any
+pub mod Resolved
+pub mod Wishes
+pub mod Sound
+pub mod May
+pub mod Bridge
+pub mod MachineLine
+pub mod Answered
+pub mod Numbers
+pub mod Rest

@@ -1,0 +1,23 @@
+use Rattle.std.proofs.Common.{◌≡◌, ◌≤◌, ◌∙◌, true, false, sym, rules, length, arith}
+use Rattle.std.proofs.lemmas.Bool.Decides.{nat_tests}
+use Rattle.std.proofs.lemmas.Grind.{common_steps}
+use Rattle.postquel_tokens.specs.Forms.{sentence_of}
+use Rattle.name_check.specs.Sentences.{is_kept}
+use Rattle.name_check.proofs.Any.{any_map}
+use Rattle.name_check.proofs.Rest.{any_here, any_later, any_end}
+use Rattle.name_check.proofs.parts.has_into.Goals as goal
+
+pub returns-then-is_some : goal.returns-then-is_some
+returns-then-is_some c =
+    let here : is_kept (sentence_of c.get.result.now) ≡ true = first_of (cc, search rules) in
+    sym (any_map sentence_of is_kept c.args.script.now.statements ∙ (sym c.loop-place.invariant ∙ any_here (λ s. is_kept (sentence_of s)) c.args.script.now.statements c.loop-place.place c.get.result.now c.get.ensures here))
+
+pub loop-place-preserved : goal.loop-place-preserved
+loop-place-preserved c =
+    let here : is_kept (sentence_of c.get.result.now) ≡ false = first_of (cc, search rules) in
+    sym (any_later (λ s. is_kept (sentence_of s)) c.args.script.now.statements c.loop-place.place c.get.result.now c.get.ensures here) ∙ c.loop-place.invariant
+
+pub returns : goal.returns
+returns c =
+    let past : length c.args.script.now.statements ≤ c.loop-place.place = first_of (search rules, grind (arith, nat_tests), grind (arith, common_steps)) in
+    sym (any_map sentence_of is_kept c.args.script.now.statements ∙ (sym c.loop-place.invariant ∙ any_end (λ s. is_kept (sentence_of s)) c.args.script.now.statements c.loop-place.place past))

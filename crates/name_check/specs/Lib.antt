@@ -1,0 +1,14 @@
+pub mod Places
+pub mod Types
+pub mod Built
+pub mod Checked
+pub mod Faults
+pub mod Agreed
+pub mod Sentences
+pub mod Steps
+pub mod Whole
+pub mod Resolved
+pub mod Machine
+pub mod MachineSteps
+pub mod Bridge
+pub mod Numbers
