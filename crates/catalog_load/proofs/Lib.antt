@@ -1,0 +1,4 @@
+pub mod RecordRuns
+pub mod Cells
+pub mod Pops
+pub mod Typed

@@ -1,0 +1,10 @@
+//! Reads catalogues and tables.
+#![tactic(auto)]
+
+mod fault;
+mod records;
+mod table;
+
+
+pub use fault::{LoadErr, TableWhat};
+
