@@ -1,3 +1,6 @@
 pub mod RowBytes
 pub mod Tables
 pub mod Records
+pub mod Catalogs
+pub mod Machine
+pub mod Checks
