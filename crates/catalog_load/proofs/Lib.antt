@@ -3,3 +3,8 @@ pub mod Cells
 pub mod Pops
 pub mod Typed
 pub mod Tokens
+pub mod Leading
+pub mod Sound
+pub mod Complete
+pub mod Answering
+pub mod Lexing

@@ -24,7 +24,8 @@ use Rattle.catalog_load.specs.declared.form.RelationForm.{RelationForm}
 use Rattle.catalog_load.specs.declared.form.Flaw.{Flaw}
 
 abbrev pub is_among : List (List ℕ) → List ℕ → Bool
-is_among names name = list_any (bytes_eq name) names
+is_among [] name = false
+is_among (first ∷ rest) name = if bytes_eq first name then true else is_among rest name
 
 -- a name that no relation and no column may have
 unfoldable pub is_key : List ℕ → Bool

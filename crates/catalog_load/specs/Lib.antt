@@ -4,3 +4,4 @@ pub mod Records
 pub mod Catalogs
 pub mod Machine
 pub mod Checks
+pub mod Readings

@@ -23,6 +23,7 @@ use Rattle.catalog_load.specs.declared.form.RelationForm.{RelationForm}
 use Rattle.catalog_load.specs.declared.machine.Place.{Place}
 use Rattle.catalog_load.specs.declared.machine.Place.TheVariants as place
 use Rattle.catalog_load.specs.Catalogs.{is_key}
+use Rattle.catalog_load.specs.Readings.{spot_of}
 
 -- what was found is that, unless memory ran out
 abbrev pub Finds : {A : Type 0} → Result A Halt → Option A → Type 0
@@ -189,11 +190,6 @@ going_on (Some s) rest more = more s.0 s.1
 unfoldable pub run : List RelationForm → Place → List Token → Result (List RelationForm) (List Token)
 run entries p [] = or_end (finish entries p)
 run entries p (t ∷ ts) = going_on (step entries p t) (t ∷ ts) (λ es q. run es q ts)
-
--- the place of the first of some tokens before the end
-abbrev pub spot_of : List Token → Spot → Spot
-spot_of [] end = end
-spot_of (t ∷ ts) end = t.spot
 
 -- what was read is that, unless memory ran out
 abbrev pub Told : {A : Type 0} → (A → List RelationForm) → Spot → Result A TextErr → Result (List RelationForm) (List Token) → Type 0

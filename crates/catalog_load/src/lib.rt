@@ -1,6 +1,7 @@
 //! Reads catalogues and tables.
 #![tactic(auto)]
 
+mod catalog;
 mod checks;
 mod fault;
 mod form;
@@ -10,5 +11,7 @@ mod table;
 mod words;
 
 
+pub use catalog::read_catalog;
 pub use fault::{LoadErr, TableWhat};
 
+pub use table::load_table;

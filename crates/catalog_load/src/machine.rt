@@ -214,6 +214,7 @@ fn finished(
 
 /// The entries that the tokens before the end say, or `Unexpected` at the first token with which no
 /// catalogue goes on.
+#[tactic(auto, unfolding(crate::specs::Machine::run))]
 pub fn entries(
     alloc: Global,
     tokens: &[Token],
