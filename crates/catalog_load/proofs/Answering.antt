@@ -17,9 +17,12 @@ use Rattle.catalog_load.specs.declared.form.ColumnForm.{ColumnForm}
 use Rattle.catalog_load.specs.declared.form.RelationForm.{RelationForm}
 use Rattle.catalog_load.specs.declared.machine.Place.{Place}
 use Rattle.catalog_load.specs.declared.machine.Place.TheVariants as place
-use Rattle.catalog_load.specs.Catalogs.{IsForm, IsPiece, Mark, Named, Spell, Word, is_key, type_word, entry_pieces}
-use Rattle.catalog_load.specs.Machine.{State, finish, going_on, nullable_column, name_of, new_column, new_entry, or_end, run, step, with_column, with_index}
-use Rattle.catalog_load.specs.Readings.{Begins, IsUnexpected, NoneWith, spot_of}
+use Rattle.catalog_load.specs.Catalogs.{IsForm, IsPiece, fault_of, relation_of, Mark, Named, Spell, Word, is_key, type_word, entry_pieces}
+use Rattle.catalog_load.specs.Machine.{State, Told, finish, going_on, nullable_column, name_of, new_column, new_entry, or_end, run, step, with_column, with_index}
+use Rattle.catalog_load.specs.Readings.{Begins, IsLexed, IsReading, IsUnexpected, NoneWith, Tells, Writes, WritesOr, spot_of}
+use Rattle.catalog_load.specs.Checks.{Checked, catalog_from, unless}
+use Rattle.catalog_load.specs.declared.form.Flaw.{Flaw}
+use Rattle.rows.specs.declared.plain.Relation.{Relation}
 use Rattle.catalog_load.proofs.Leading.{HasColumns}
 use Rattle.catalog_load.proofs.Sound.{Holds, ended, stepped}
 use Rattle.catalog_load.proofs.Complete.{all_run, between_relation, go}
@@ -172,3 +175,30 @@ pub is_unexpected : (tokens rest : List Token) (end there : Spot) → run [] pla
 is_unexpected tokens rest end there e is =
     let k = (answers [] place.Relation tokens [] start).1 rest e in
     record { used = k.more; rest = rest; parts = k.parts; place = is; begins = begins k.entries k.at k.more k.holds; none = none_with k.more rest k.entries k.at k.leads k.stops }
+
+module _ (text : List ℕ) (tokens : List Token) (end : Token) (lexed : IsLexed text tokens end) where
+  written_by : {A : Type 0} (view : A → List RelationForm) (r : Result A TextErr) (o : Result (List RelationForm) (List Token)) → run [] place.Relation tokens ≡ o → Told view end.spot r o → WritesOr view text r
+  written_by view (Ok found) (Ok entries) is told = record { tokens = tokens; end = end; lexed = lexed; form = is_form (view found) tokens (is ∙ ap Ok told) }
+  written_by view (Ok found) (Err rest) is told = absurd told
+  written_by view (Err (text_err.Fault line col w)) (Ok entries) is told = absurd told
+  written_by view (Err (text_err.Fault line col w)) (Err rest) is told = inr (inl (told.0, record { tokens = tokens; end = end; lexed = lexed; unexpected = is_unexpected tokens rest end.spot (record { line = line; col = col }) is told.1 }))
+  written_by view (Err text_err.NoMemory) o is told = tt
+
+  pub written : {A : Type 0} (view : A → List RelationForm) (r : Result A TextErr) → Told view end.spot r (run [] place.Relation tokens) → WritesOr view text r
+  written view r told = written_by view r (run [] place.Relation tokens) refl told
+
+module _ (text : List ℕ) (entries : List RelationForm) (writes : Writes text entries) where
+  right_by : (o : Option Flaw) (catalog : List Relation) → fault_of entries ≡ o → unless o (map relation_of entries) ≡ Ok catalog → IsReading text (Ok catalog)
+  right_by None catalog is e = let same : map relation_of entries ≡ catalog = cc in (entries, writes, is, sym same)
+  right_by (Some flaw) catalog is e = cc
+
+  pub right : (catalog : List Relation) → catalog_from [] entries ≡ Ok catalog → IsReading text (Ok catalog)
+  right catalog e = right_by (fault_of entries) catalog refl e
+
+  wrong_by : (o : Option Flaw) (flaw : Flaw) → fault_of entries ≡ o → unless o (map relation_of entries) ≡ Err flaw → IsReading text (Err (flaw.what, flaw.spot))
+  wrong_by None flaw is e = cc
+  wrong_by (Some f) flaw is e = let same : f ≡ flaw = cc in inr (inr (entries, writes, is ∙ ap Some same))
+
+  pub wrong : {A : Type 0} (view : A → List Relation) (e : TextErr) → Checked view (Err e) (catalog_from [] entries) → Tells text (Err e)
+  wrong view (text_err.Fault line col w) h = wrong_by (fault_of entries) (record { what = w; spot = record { line = line; col = col } }) refl h
+  wrong view text_err.NoMemory h = tt

@@ -14,7 +14,7 @@ use Rattle.rows.specs.declared.field.ColType.TheVariants as col
 use Rattle.rows.specs.declared.field.FieldErr.{FieldErr}
 use Rattle.rows.specs.declared.field.FieldErr.TheVariants as err
 use Rattle.rows.specs.Fields.{field_value, int4_of, is_integer_text, number_or_out}
-use Rattle.catalog_load.specs.RowBytes.{IsOfType, IsRowOf, IsValueOf, row_bytes}
+use Rattle.rows.specs.RowBytes.{IsOfType, IsRowOf, IsValueOf, row_bytes}
 use Rattle.catalog_load.specs.declared.fault.LoadErr.{LoadErr}
 use Rattle.catalog_load.specs.declared.fault.LoadErr.TheVariants.{Fault}
 use Rattle.catalog_load.specs.declared.fault.TableWhat.TheVariants as what

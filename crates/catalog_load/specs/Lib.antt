@@ -1,4 +1,3 @@
-pub mod RowBytes
 pub mod Tables
 pub mod Records
 pub mod Catalogs

@@ -68,3 +68,8 @@ abbrev pub Tells : List ℕ → Result (List Relation) TextErr → Type 0
 Tells text (Ok catalog) = IsReading text (Ok catalog)
 Tells text (Err (Fault line col w)) = IsReading text (Err (w, record { line = line; col = col }))
 Tells text (Err NoMemory) = Unit {0}
+
+-- the entries of the text, or a fault of it
+abbrev pub WritesOr : {A : Type 0} → (A → List RelationForm) → List ℕ → Result A TextErr → Type 0
+WritesOr view text (Ok found) = Writes text (view found)
+WritesOr view text (Err e) = Tells text (Err e)

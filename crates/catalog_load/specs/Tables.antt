@@ -8,7 +8,7 @@ use Rattle.rows.specs.declared.plain.Column.{Column}
 use Rattle.rows.specs.declared.field.FieldErr.{FieldErr}
 use Rattle.rows.specs.declared.field.FieldErr.TheVariants as field_err
 use Rattle.rows.specs.Fields.{field_value}
-use Rattle.catalog_load.specs.RowBytes.{row_bytes}
+use Rattle.rows.specs.RowBytes.{row_bytes}
 use Rattle.catalog_load.specs.declared.fault.TableWhat.TheVariants as what
 use Rattle.catalog_load.specs.declared.fault.LoadErr.{LoadErr}
 use Rattle.catalog_load.specs.declared.fault.LoadErr.TheVariants.{Fault, NoMemory}

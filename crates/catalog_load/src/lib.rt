@@ -7,7 +7,10 @@ mod fault;
 mod form;
 mod machine;
 mod records;
+
 mod table;
+#[cfg(test)]
+mod tests;
 mod words;
 
 

@@ -4,14 +4,14 @@ ghost use Rattle.std.specs.Prelude.{◌≡◌, ◌≤◌, ◌+◌, ◌^◌, ◌<
 ghost use Rattle.std.specs.Option.{option_copied};
 ghost use Rattle.csv.specs.Records.{fields_of};
 ghost use Rattle.rows.specs.Fields.{GivesField};
-ghost use Rattle.catalog_load.specs.RowBytes.{IsRowOf, row_bytes};
+ghost use Rattle.rows.specs.RowBytes.{IsRowOf};
 ghost use Rattle.catalog_load.specs.Records.{IsPlain, left_in};
 ghost use Rattle.catalog_load.specs.Tables.{Loads, all_or_first, cells, counted_row, first_difference, if_short, is_named, placed, row_of, rows_from, rows_of, value_of};
 
 use crate::records::{next_record, records};
 use crate::{LoadErr, TableWhat};
 use csv::{ByteRecord, Reader};
-use rows::{Column, ColumnList, FieldErr, Relation, Row, Rows, Sequence, Value, read_field};
+use rows::{Column, ColumnList, FieldErr, Relation, Row, Rows, Sequence, Value, read_field, row_size};
 use std::alloc::Global;
 
 /// How many bytes a row's encoding may take.
@@ -178,17 +178,4 @@ pub fn load_table(alloc: Global, bytes: &[u8], relation: &Relation) -> Result<Ro
         &mut reader,
         &mut fields,
     )?))
-}
-
-// TEMPORARY
-fn row_size(row: &Row, columns: &ColumnList) -> u32
-    requires few { length columns.now ≤ 32 }
-    requires row { IsRowOf columns.now row.now }
-    ensures { result ≡ length (row_bytes columns.now row.now) }
-{
-    if row.is_empty() && columns.is_empty() {
-        1
-    } else {
-        0
-    }
 }
