@@ -34,14 +34,12 @@ At used s = Holds s.0 s.1 used
 abbrev token_of : TokenKind → Token
 token_of k = record { kind = k; spot = record { line = 1; col = 1 } }
 
-
 -- one token more
 longer : (used : List Token) (t : Token) → Begins (used ++ t ∷ []) → Begins used
 longer used t b = record { entries = b.entries; more = t ∷ b.more; is = subst (λ (ts : List Token). IsForm b.entries ts) (append_assoc used (t ∷ []) b.more) b.is }
 
 whole : (used : List Token) (entries : List RelationForm) → IsForm entries used → Begins used
 whole used entries h = record { entries = entries; more = []; is = subst (λ (ts : List Token). IsForm entries ts) (sym (append-nil used)) h }
-
 
 module _ (es : List RelationForm) (used : List Token) where
   from_end : Holds es place.Relation used → Begins used
@@ -136,15 +134,19 @@ answers es p (t ∷ ts) used h = by (step es p t) refl (λ s e. answers s.0 s.1 
   by : (o : Option State) → step es p t ≡ o
       → ((s : State) → step es p t ≡ Some s → ((all : List RelationForm) → run s.0 s.1 ts ≡ Ok all → IsForm all ((used ++ t ∷ []) ++ ts)) × ((rest : List Token) → run s.0 s.1 ts ≡ Err rest → Stopped s.0 s.1 ts rest (used ++ t ∷ [])))
       → ((all : List RelationForm) → going_on o (t ∷ ts) (λ fs q. run fs q ts) ≡ Ok all → IsForm all (used ++ t ∷ ts)) × ((rest : List Token) → going_on o (t ∷ ts) (λ fs q. run fs q ts) ≡ Err rest → Stopped es p (t ∷ ts) rest used)
-  by None is more = ((λ all e. cc), (λ rest e.
-      let same : t ∷ ts ≡ rest = cc in
-      subst (λ (r : List Token). Stopped es p (t ∷ ts) r used) same (record { more = []; entries = es; at = p; parts = refl; holds = subst (λ (us : List Token). Holds es p us) (sym (append-nil used)) h; leads = λ w. refl; stops = is })))
+  by None is more = (
+    (λ all e. cc),
+    (λ rest e.
+        let same : t ∷ ts ≡ rest = cc in
+        subst (λ (r : List Token). Stopped es p (t ∷ ts) r used) same (record { more = []; entries = es; at = p; parts = refl; holds = subst (λ (us : List Token). Holds es p us) (sym (append-nil used)) h; leads = λ w. refl; stops = is })),
+  )
   by (Some s) is more =
-      let m = more s is in
-      ((λ all e. subst (λ (us : List Token). IsForm all us) (append_assoc used (t ∷ []) ts) (m.0 all e)),
-      (λ rest e.
-          let k = m.1 rest e in
-          record { more = t ∷ k.more; entries = k.entries; at = k.at; parts = ap (λ l. t ∷ l) k.parts; holds = subst (λ (us : List Token). Holds k.entries k.at us) (append_assoc used (t ∷ []) k.more) k.holds; leads = λ w. go es p t (k.more ++ w) s is ∙ k.leads w; stops = k.stops }))
+      let m = more s is in (
+        (λ all e. subst (λ (us : List Token). IsForm all us) (append_assoc used (t ∷ []) ts) (m.0 all e)),
+        (λ rest e.
+            let k = m.1 rest e in
+            record { more = t ∷ k.more; entries = k.entries; at = k.at; parts = ap (λ l. t ∷ l) k.parts; holds = subst (λ (us : List Token). Holds k.entries k.at us) (append_assoc used (t ∷ []) k.more) k.holds; leads = λ w. go es p t (k.more ++ w) s is ∙ k.leads w; stops = k.stops }),
+      )
 
 recursed : (entries : List RelationForm) → All (λ r. 0 < length r.columns) entries → AllByRecursion HasColumns entries
 recursed [] h = tt

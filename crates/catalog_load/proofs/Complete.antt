@@ -141,9 +141,14 @@ Arrives es p u tail all = (fs : List RelationForm) × (q : Place) × (rest : Lis
 index_run : (all : List RelationForm) (r : RelationForm) (index : Option Ident) (tail : List Piece) (u : List Token) → Spell (index_pieces index ++ tail) u
     → Arrives all (place.BehindColumns (record { name = r.name; file = r.file; columns = r.columns; index = None })) u tail (all ++ record { name = r.name; file = r.file; columns = r.columns; index = index } ∷ [])
 index_run all r None tail u h = (all, place.BehindColumns (record { name = r.name; file = r.file; columns = r.columns; index = None }), u, h, between_columns all (record { name = r.name; file = r.file; columns = r.columns; index = None }), refl)
-index_run all r (Some n) tail (a ∷ b ∷ rest) h =
-    (all ++ record { name = r.name; file = r.file; columns = r.columns; index = Some n } ∷ [], place.Relation, rest, h.1.1, between_relation (all ++ record { name = r.name; file = r.file; columns = r.columns; index = Some n } ∷ []),
-    go all _ a (b ∷ rest) _ (index_step all _ a h.0) ∙ go all _ b rest _ (indexed_step all (record { name = r.name; file = r.file; columns = r.columns; index = None }) n b h.1.0))
+index_run all r (Some n) tail (a ∷ b ∷ rest) h = (
+  all ++ record { name = r.name; file = r.file; columns = r.columns; index = Some n } ∷ [],
+  place.Relation,
+  rest,
+  h.1.1,
+  between_relation (all ++ record { name = r.name; file = r.file; columns = r.columns; index = Some n } ∷ []),
+  go all _ a (b ∷ rest) _ (index_step all _ a h.0) ∙ go all _ b rest _ (indexed_step all (record { name = r.name; file = r.file; columns = r.columns; index = None }) n b h.1.0),
+)
 index_run all r (Some n) tail [] h = absurd h
 index_run all r (Some n) tail (a ∷ []) h = absurd h.1
 
@@ -155,9 +160,14 @@ entry_run es p all n f c cs i tail (t1 ∷ t2 ∷ t3 ∷ t4 ∷ t5 ∷ u) b h =
     let m = columns_run all (new_entry n f) c cs (index_pieces i ++ tail) u h.1.1.1.1.1 in
     let k = index_run all (record { name = n; file = f; columns = c ∷ cs; index = None }) i tail m.0 m.1 in
     let end : (w : List Token) → w ++ [] ≡ w = λ w. append-nil w in
-    let cols = ap (run all (place.Column (new_entry n f))) (sym (end u)) ∙ m.2 [] ∙ ap (run all (place.BehindColumns (record { name = n; file = f; columns = c ∷ cs; index = None }))) (end m.0) in
-    (k.0, k.1, k.2, k.3, k.4,
-    go es p t1 _ _ (b.0 t1 h.0) ∙ go all _ t2 _ _ (word_name all n t2 h.1.0) ∙ go all _ t3 _ _ (from_step all n t3 h.1.1.0) ∙ go all _ t4 _ _ (file_step all n f t4 h.1.1.1.0) ∙ go all _ t5 _ _ (left_step all (new_entry n f) t5 h.1.1.1.1.0) ∙ cols ∙ k.5)
+    let cols = ap (run all (place.Column (new_entry n f))) (sym (end u)) ∙ m.2 [] ∙ ap (run all (place.BehindColumns (record { name = n; file = f; columns = c ∷ cs; index = None }))) (end m.0) in (
+      k.0,
+      k.1,
+      k.2,
+      k.3,
+      k.4,
+      go es p t1 _ _ (b.0 t1 h.0) ∙ go all _ t2 _ _ (word_name all n t2 h.1.0) ∙ go all _ t3 _ _ (from_step all n t3 h.1.1.0) ∙ go all _ t4 _ _ (file_step all n f t4 h.1.1.1.0) ∙ go all _ t5 _ _ (left_step all (new_entry n f) t5 h.1.1.1.1.0) ∙ cols ∙ k.5,
+    )
 entry_run es p all n f c cs i tail [] b h = absurd h
 entry_run es p all n f c cs i tail (t1 ∷ []) b h = absurd h.1
 entry_run es p all n f c cs i tail (t1 ∷ t2 ∷ []) b h = absurd h.1.1

@@ -1,10 +1,10 @@
 -- The rows that a text writes are rows of the columns.
-use Rattle.std.proofs.Common.{◌≡◌, ℕ, ℤ, pos, negsuc, neg_ℤ, ◌≤ℤ◌, ◌≤◌, ◌+◌, ◌==◌, ◌&&◌, Bool, true, false, cond, List, [], ◌∷◌, length, Option, Some, None, Result, Ok, Err, refl, ap, sym, subst, arith, nat_lt, nat_le, codes, ◌||◌, All}
+use Rattle.std.proofs.Common.{◌≡◌, ℕ, zero, suc, ℤ, pos, neg_ℤ, ◌<◌, ◌≤◌, ◌+◌, ◌==◌, ◌&&◌, Bool, true, false, cond, List, [], ◌∷◌, length, Option, Some, None, Result, Ok, Err, refl, ap, sym, subst, arith, nat_lt, nat_le, codes, ◌||◌, All, FitsSigned}
+use Rattle.std.specs.Int.{w32}
 use Rattle.std.specs.List.{AllByRecursion}
 use Rattle.std.specs.Str.{is_utf8, bytes_eq}
 use Rattle.std.specs.Str.Parse.{starts_with_minus, without_leading_sign, digits_value}
 use Rattle.std.proofs.lemmas.Bool.Decides.{nat_tests}
-use Rattle.std.proofs.lemmas.Int.{ints}
 use Rattle.std.proofs.lemmas.List.Elements.{All-from_recursion}
 use Rattle.rows.specs.declared.value.Value.{Value}
 use Rattle.rows.specs.declared.value.Value.TheVariants as value
@@ -24,23 +24,30 @@ if_true : {A E : Type 0} (b : Bool) (x : Result A E) (e : E) (y : A) → cond b 
 if_true true x e y h = (refl, h)
 if_true false x e y h = cc
 
-int4_range : (minus : Bool) (size : ℕ) (n : ℤ) → cond minus (cond (nat_le size 2147483648) (Some (neg_ℤ (pos size))) None) (cond (nat_lt size 2147483648) (Some (pos size)) None) ≡ Some n → (negsuc 2147483647 ≤ℤ n) × (n ≤ℤ pos 2147483647)
+fits_negative : (size : ℕ) → size ≤ 2147483648 → FitsSigned w32 (neg_ℤ (pos size))
+fits_negative zero h = let below : 0 < 2147483648 = omega arith in record { sfits = below }
+fits_negative (suc k) h = let below : k < 2147483648 = omega arith in record { sfits = below }
+
+fits_positive : (size : ℕ) → size ≤ 2147483647 → FitsSigned w32 (pos size)
+fits_positive size h = let below : size < 2147483648 = omega arith in record { sfits = below }
+
+int4_range : (minus : Bool) (size : ℕ) (n : ℤ) → cond minus (cond (nat_le size 2147483648) (Some (neg_ℤ (pos size))) None) (cond (nat_lt size 2147483648) (Some (pos size)) None) ≡ Some n → FitsSigned w32 n
 int4_range true size n e = low (nat_le size 2147483648) refl e where
-  low : (b : Bool) → nat_le size 2147483648 ≡ b → cond b (Some (neg_ℤ (pos size))) None ≡ Some n → (negsuc 2147483647 ≤ℤ n) × (n ≤ℤ pos 2147483647)
+  low : (b : Bool) → nat_le size 2147483648 ≡ b → cond b (Some (neg_ℤ (pos size))) None ≡ Some n → FitsSigned w32 n
   low true t h =
       let small : size ≤ 2147483648 = grind (arith, nat_tests) in
       let same : neg_ℤ (pos size) ≡ n = cc in
-      subst (λ m. (negsuc 2147483647 ≤ℤ m) × (m ≤ℤ pos 2147483647)) same (omega (arith, ints), omega (arith, ints))
+      subst (λ m. FitsSigned w32 m) same (fits_negative size small)
   low false t h = cc
 int4_range false size n e = high (nat_lt size 2147483648) refl e where
-  high : (b : Bool) → nat_lt size 2147483648 ≡ b → cond b (Some (pos size)) None ≡ Some n → (negsuc 2147483647 ≤ℤ n) × (n ≤ℤ pos 2147483647)
+  high : (b : Bool) → nat_lt size 2147483648 ≡ b → cond b (Some (pos size)) None ≡ Some n → FitsSigned w32 n
   high true t h =
       let small : size ≤ 2147483647 = grind (arith, nat_tests) in
       let same : pos size ≡ n = cc in
-      subst (λ m. (negsuc 2147483647 ≤ℤ m) × (m ≤ℤ pos 2147483647)) same (omega (arith, ints), omega (arith, ints))
+      subst (λ m. FitsSigned w32 m) same (fits_positive size small)
   high false t h = cc
 
-integer_typed : (is : Bool) (n : Option ℤ) (v : Value) → ((m : ℤ) → n ≡ Some m → (negsuc 2147483647 ≤ℤ m) × (m ≤ℤ pos 2147483647)) → cond is (number_or_out n) (Err err.NotInt4) ≡ Ok v → IsOfType col.Int4 v
+integer_typed : (is : Bool) (n : Option ℤ) (v : Value) → ((m : ℤ) → n ≡ Some m → FitsSigned w32 m) → cond is (number_or_out n) (Err err.NotInt4) ≡ Ok v → IsOfType col.Int4 v
 integer_typed true None v h e = cc
 integer_typed true (Some n) v h e = subst (IsOfType col.Int4) (let same : value.Number n ≡ v = cc in same) (h n refl)
 integer_typed false n v h e = cc

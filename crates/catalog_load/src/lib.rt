@@ -7,14 +7,11 @@ mod fault;
 mod form;
 mod machine;
 mod records;
-
 mod table;
 #[cfg(test)]
 mod tests;
 mod words;
 
-
 pub use catalog::read_catalog;
 pub use fault::{LoadErr, TableWhat};
-
 pub use table::load_table;

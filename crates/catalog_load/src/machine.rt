@@ -19,16 +19,40 @@ use std::alloc::Global;
 pub enum Place {
     Relation,
     Name,
-    From { name: Ident },
-    File { name: Ident },
-    Open { entry: RelationForm },
-    Column { entry: RelationForm },
-    Equal { entry: RelationForm, name: Ident },
-    Type { entry: RelationForm, name: Ident },
-    BehindType { entry: RelationForm, column: ColumnForm },
-    BehindNull { entry: RelationForm, column: ColumnForm },
-    BehindColumns { entry: RelationForm },
-    Index { entry: RelationForm },
+    From {
+        name: Ident,
+    },
+    File {
+        name: Ident,
+    },
+    Open {
+        entry: RelationForm,
+    },
+    Column {
+        entry: RelationForm,
+    },
+    Equal {
+        entry: RelationForm,
+        name: Ident,
+    },
+    Type {
+        entry: RelationForm,
+        name: Ident,
+    },
+    BehindType {
+        entry: RelationForm,
+        column: ColumnForm,
+    },
+    BehindNull {
+        entry: RelationForm,
+        column: ColumnForm,
+    },
+    BehindColumns {
+        entry: RelationForm,
+    },
+    Index {
+        entry: RelationForm,
+    },
 }
 
 // The entry with one column more.
@@ -215,11 +239,7 @@ fn finished(
 /// The entries that the tokens before the end say, or `Unexpected` at the first token with which no
 /// catalogue goes on.
 #[tactic(auto, unfolding(crate::specs::Machine::run))]
-pub fn entries(
-    alloc: Global,
-    tokens: &[Token],
-    end: Spot,
-) -> Result<Vec<RelationForm>, TextErr>
+pub fn entries(alloc: Global, tokens: &[Token], end: Spot) -> Result<Vec<RelationForm>, TextErr>
     ensures { Told (λ v. v.items) end result (spec.run [] place_is.Relation tokens.now) }
 {
     let mut entries = Vec::new(alloc);

@@ -11,7 +11,9 @@ ghost use Rattle.catalog_load.specs.Tables.{Loads, all_or_first, cells, counted_
 use crate::records::{next_record, records};
 use crate::{LoadErr, TableWhat};
 use csv::{ByteRecord, Reader};
-use rows::{Column, ColumnList, FieldErr, Relation, Row, Rows, Sequence, Value, read_field, row_size};
+use rows::{
+    Column, ColumnList, FieldErr, Relation, Row, Rows, Sequence, Value, read_field, row_size,
+};
 use std::alloc::Global;
 
 /// How many bytes a row's encoding may take.
@@ -172,10 +174,5 @@ pub fn load_table(alloc: Global, bytes: &[u8], relation: &Relation) -> Result<Ro
     if let Some(column) = difference(columns.items(), &fields) {
         return Err(LoadErr::of_header(column));
     }
-    Ok(Sequence::from_vec(rows(
-        alloc,
-        columns,
-        &mut reader,
-        &mut fields,
-    )?))
+    Ok(Sequence::from_vec(rows(alloc, columns, &mut reader, &mut fields)?))
 }

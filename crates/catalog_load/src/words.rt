@@ -40,8 +40,24 @@ impl<T: Drop> From<AllocFailed<T>> for Halt {
 
 /// The names that no relation and no column may have.
 const KEYS: [&[u8]; 18] = [
-    b"retrieve", b"unique", b"from", b"in", b"where", b"sort", b"by", b"using", b"and", b"or",
-    b"not", b"true", b"false", b"all", b"into", b"null", b"is", b"machine",
+    b"retrieve",
+    b"unique",
+    b"from",
+    b"in",
+    b"where",
+    b"sort",
+    b"by",
+    b"using",
+    b"and",
+    b"or",
+    b"not",
+    b"true",
+    b"false",
+    b"all",
+    b"into",
+    b"null",
+    b"is",
+    b"machine",
 ];
 
 #[tactic(auto, unfolding(crate::specs::Catalogs::is_key))]
