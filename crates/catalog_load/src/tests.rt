@@ -156,7 +156,7 @@ fn a_catalogue_has_16_relations_of_32_columns_at_most(rt: HostRuntime) -> Result
     let text = numbered(alloc, front, column, 32, b"caa = text)")?;
     assert_eq!(rt;
         fault_of(&read(alloc, text.as_slice())),
-        Some((1, 374, What::TooManyColumns))
+        Some((1, 406, What::TooManyColumns))
     );
     Ok(())
 }
