@@ -2,7 +2,7 @@
 use Rattle.std.specs.Prelude.{ℕ, List, [], ◌∷◌, ◌++◌, codes, decimal, Option, Some, None}
 use Rattle.std.specs.List.{flat_map}
 use Rattle.xprs_top.specs.declared.piece.Piece.{Piece}
-use Rattle.xprs_top.specs.declared.piece.Piece.TheVariants.{Bytes, Number}
+use Rattle.xprs_top.specs.declared.piece.Piece.TheVariants.{Bytes, Number, Bound}
 use Rattle.postquel_tokens.specs.declared.fault.What.{What}
 use Rattle.postquel_tokens.specs.declared.fault.What.TheVariants as what
 use Rattle.catalog_load.specs.declared.fault.TableWhat.{TableWhat}
@@ -84,6 +84,7 @@ fault_line NotBuilt = line (codes "folds and into are not built yet" ∷ [])
 abbrev pub piece_bytes : Piece → List ℕ
 piece_bytes (Bytes b) = b.now
 piece_bytes (Number n) = decimal n
+piece_bytes (Bound b) = bound_text b
 
 abbrev pub number_of : Status → ℕ
 number_of Done = 0

@@ -13,10 +13,10 @@ use crate::refusal::{Naming, status_naming, table_refusal};
 use crate::script::{ReadScript, catalog_in, checked_script};
 use crate::words::Operands;
 use catalog_load::load_table;
-use lists::Sequence;
+use lists::{Duplicate, Sequence};
 use rel_meaning::{Database, Table};
-use rows::{Catalog, Relation, Rows};
-use std::alloc::Global;
+use rows::{Catalog, Column, Relation, Rows};
+use std::alloc::{AllocError, Global};
 use xp_outside::{Shelf, ShelfErr};
 
 /// The greatest number of bytes of a file, 64 MiB.
@@ -103,36 +103,53 @@ fn table_input<S: Shelf>(alloc: Global, shelf: &mut S, relation: &Relation) -> R
     }
 }
 
+fn copied(alloc: Global, columns: &[Column]) -> Result<Vec<Column>, AllocError>
+    ensures { IfOk result (λ copy. copy.items ≡ columns.now) }
+{
+    let mut copy = Vec::new(alloc);
+    for column in columns {
+        copy.push(Column {
+            name: column.name.duplicate(alloc)?,
+            col_type: column.col_type,
+            nullable: column.nullable,
+        })?;
+    }
+    Ok(copy)
+}
+
 // The table of a relation.
-fn table<S: Shelf>(alloc: Global, shelf: &mut S, relation: Relation) -> Result<Table, Status>
-    requires { length relation.columns ≤ 32 }
+fn table<S: Shelf>(alloc: Global, shelf: &mut S, relation: &Relation) -> Result<Table, Status>
+    requires { length relation.now.columns ≤ 32 }
     ensures files { S.files shelf.new ≡ S.files shelf.old }
     ensures count { S.faults shelf.old ≤ S.faults shelf.new }
-    ensures told { Told (S.files shelf.old) (S.faults shelf.old) (S.faults shelf.new) (λ t. t.rows) result (λ files. Just (table_of files relation)) }
-    ensures columns { IfOk result (λ t. t.columns ≡ relation.columns) }
+    ensures told { Told (S.files shelf.old) (S.faults shelf.old) (S.faults shelf.new) (λ t. t.rows) result (λ files. Just (table_of files relation.now)) }
+    ensures columns { IfOk result (λ t. t.columns ≡ relation.now.columns) }
     ensures rows { IfOk result IsTable }
 {
-    let rows = table_input(alloc, shelf, &relation)?;
-    Ok(Table {
-        columns: relation.columns,
-        rows,
-    })
+    let rows = table_input(alloc, shelf, relation)?;
+    match copied(alloc, relation.columns.items()) {
+        Ok(columns) => Ok(Table {
+            columns: Sequence::from_vec(columns),
+            rows,
+        }),
+        Err(_) => Err(Status::NoMemory),
+    }
 }
 
 /// The tables of a catalogue, in its order.
 pub(crate) fn read_tables<S: Shelf>(
     alloc: Global,
     shelf: &mut S,
-    catalog: Catalog,
+    catalog: &Catalog,
 ) -> Result<Database, Status>
-    requires { All (λ r. length r.columns ≤ 32) catalog }
+    requires { All (λ r. length r.columns ≤ 32) catalog.now }
     ensures files { S.files shelf.new ≡ S.files shelf.old }
     ensures count { S.faults shelf.old ≤ S.faults shelf.new }
-    ensures told { Told (S.files shelf.old) (S.faults shelf.old) (S.faults shelf.new) (λ db. db) result (λ files. Just (tables_of files catalog)) }
-    ensures tables { IfOk result (AreTables catalog) }
+    ensures told { Told (S.files shelf.old) (S.faults shelf.old) (S.faults shelf.new) (λ db. db) result (λ files. Just (tables_of files catalog.now)) }
+    ensures tables { IfOk result (AreTables catalog.now) }
 {
     let mut tables = Vec::new(alloc);
-    for relation in catalog.into_vec() {
+    for relation in catalog.items() {
         let table = table(alloc, shelf, relation)?;
         if tables.push(table).is_err() {
             return Err(Status::NoMemory);

@@ -90,16 +90,15 @@ fn answers_text(alloc: Global, read: &ReadScript, db: &Database) -> Result<Vec<u
 }
 
 // The answers of a checked script, over the tables of its catalogue.
-fn alone_text<S: Shelf>(alloc: Global, shelf: &mut S, checked: Checked) -> Result<Vec<u8>, Status>
-    requires few { All (λ r. length r.columns ≤ 32) checked.catalog }
-    requires answerable { Answerable checked.catalog (program_of checked.read.script).sentences checked.read.queries }
+fn alone_text<S: Shelf>(alloc: Global, shelf: &mut S, checked: &Checked) -> Result<Vec<u8>, Status>
+    requires few { All (λ r. length r.columns ≤ 32) checked.now.catalog }
+    requires answerable { Answerable checked.now.catalog (program_of checked.now.read.script).sentences checked.now.read.queries }
     ensures files { S.files shelf.new ≡ S.files shelf.old }
     ensures count { S.faults shelf.old ≤ S.faults shelf.new }
-    ensures told { Told (S.files shelf.old) (S.faults shelf.old) (S.faults shelf.new) (λ v. v.items) result (λ files. Just (text_by files verb.Alone (read_of checked))) }
+    ensures told { Told (S.files shelf.old) (S.faults shelf.old) (S.faults shelf.new) (λ v. v.items) result (λ files. Just (text_by files verb.Alone (read_of checked.now))) }
 {
-    let Checked { catalog, read } = checked;
-    let db = read_tables(alloc, shelf, catalog)?;
-    answers_text(alloc, &read, &db)
+    let db = read_tables(alloc, shelf, &checked.catalog)?;
+    answers_text(alloc, &checked.read, &db)
 }
 
 // The script in its printed form.
@@ -124,7 +123,7 @@ pub(crate) fn wanted_text<S: Shelf>(
 {
     let checked = read_checked(alloc, shelf, operands)?;
     match operands.verb {
-        Verb::Alone => alone_text(alloc, shelf, checked),
+        Verb::Alone => alone_text(alloc, shelf, &checked),
         Verb::Check => check_text(alloc, &checked.read.script),
     }
 }
