@@ -1,5 +1,5 @@
 -- Two readings of one text are equal.
-use Rattle.std.proofs.Common.{◌≡◌, ◌⊎◌, inl, inr, ◌∙◌, ℕ, ◌+◌, List, [], ◌∷◌, ◌++◌, length, map, Option, Some, None, Result, Ok, Err, refl, sym, ap, subst, append_assoc, append-nil, arith, length-append}
+use Rattle.std.proofs.Common.{◌≡◌, ◌⊎◌, inl, inr, ◌∙◌, ℕ, List, [], ◌∷◌, ◌++◌, length, map, Option, Some, None, Result, Ok, Err, refl, sym, ap, subst, append_assoc, append-nil, arith, length-append}
 use Rattle.postquel_tokens.specs.declared.fault.Spot.{Spot}
 use Rattle.postquel_tokens.specs.declared.fault.What.{What}
 use Rattle.postquel_tokens.specs.declared.fault.What.TheVariants as what
@@ -8,9 +8,7 @@ use Rattle.postquel_tokens.specs.Lex.{lex_of}
 use Rattle.rows.specs.declared.plain.Relation.{Relation}
 use Rattle.catalog_load.specs.declared.form.Flaw.{Flaw}
 use Rattle.catalog_load.specs.declared.form.RelationForm.{RelationForm}
-use Rattle.catalog_load.specs.declared.machine.Place.TheVariants as place
 use Rattle.catalog_load.specs.Catalogs.{IsForm, fault_of, relation_of}
-use Rattle.catalog_load.specs.Machine.{run}
 use Rattle.catalog_load.specs.Readings.{Begins, HasUnexpected, IsLexed, IsReading, IsUnexpected, NoneWith, OneCatalog, Writes, spot_of}
 use Rattle.catalog_load.proofs.Answering.{complete}
 
