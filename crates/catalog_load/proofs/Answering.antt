@@ -1,24 +1,21 @@
 -- The reading of a text as a catalogue.
-use Rattle.std.proofs.Common.{◌≡◌, ◌⊎◌, inl, inr, ◌∙◌, ℕ, ◌<◌, Bool, true, false, List, [], ◌∷◌, ◌++◌, length, map, Option, Some, None, Result, Ok, Err, refl, sym, ap, subst, codes, append_assoc, arith, append-nil}
-use Rattle.std.specs.List.{All, AllByRecursion, flat_map}
+use Rattle.std.proofs.Common.{◌≡◌, inl, inr, ◌∙◌, ℕ, ◌<◌, List, [], ◌∷◌, ◌++◌, length, map, Option, Some, None, Result, Ok, Err, refl, sym, ap, subst, codes, append_assoc, append-nil}
+use Rattle.std.specs.List.{All, AllByRecursion}
 use Rattle.std.proofs.lemmas.List.Elements.{All-head, All-tail}
 use Rattle.postquel_tokens.specs.declared.form.Ident.{Ident}
 use Rattle.postquel_tokens.specs.declared.fault.Spot.{Spot}
-use Rattle.postquel_tokens.specs.declared.fault.What.{What}
-use Rattle.postquel_tokens.specs.declared.fault.What.TheVariants as what
 use Rattle.postquel_tokens.specs.declared.fault.TextErr.{TextErr}
 use Rattle.postquel_tokens.specs.declared.fault.TextErr.TheVariants as text_err
 use Rattle.postquel_tokens.specs.declared.token.Token.{Token}
 use Rattle.postquel_tokens.specs.declared.token.TokenKind.{TokenKind}
 use Rattle.postquel_tokens.specs.declared.token.TokenKind.TheVariants as kind
 use Rattle.postquel_tokens.specs.declared.token.Sign.TheVariants as sign
-use Rattle.rows.specs.declared.field.ColType.TheVariants as col
 use Rattle.catalog_load.specs.declared.form.ColumnForm.{ColumnForm}
 use Rattle.catalog_load.specs.declared.form.RelationForm.{RelationForm}
 use Rattle.catalog_load.specs.declared.machine.Place.{Place}
 use Rattle.catalog_load.specs.declared.machine.Place.TheVariants as place
-use Rattle.catalog_load.specs.Catalogs.{IsForm, IsPiece, fault_of, relation_of, Mark, Named, Spell, Word, is_key, type_word, entry_pieces}
-use Rattle.catalog_load.specs.Machine.{State, Told, finish, going_on, nullable_column, name_of, new_column, new_entry, or_end, run, step, with_column, with_index}
+use Rattle.catalog_load.specs.Catalogs.{IsForm, fault_of, relation_of, is_key}
+use Rattle.catalog_load.specs.Machine.{State, Told, finish, going_on, or_end, run, step}
 use Rattle.catalog_load.specs.Readings.{Begins, IsLexed, IsReading, IsUnexpected, NoneWith, Tells, Writes, WritesOr, spot_of}
 use Rattle.catalog_load.specs.Checks.{Checked, catalog_from, unless}
 use Rattle.catalog_load.specs.declared.form.Flaw.{Flaw}
@@ -153,7 +150,7 @@ recursed [] h = tt
 recursed (r ∷ entries) h = (All-head HasColumns r entries h, recursed entries (All-tail HasColumns r entries h))
 
 -- a catalogue is read
-complete : (entries : List RelationForm) (tokens : List Token) → IsForm entries tokens → run [] place.Relation tokens ≡ Ok entries
+pub complete : (entries : List RelationForm) (tokens : List Token) → IsForm entries tokens → run [] place.Relation tokens ≡ Ok entries
 complete entries tokens h = all_run entries [] place.Relation [] tokens (recursed entries h.columns) (between_relation []) h.spell
 
 start : Holds [] place.Relation []

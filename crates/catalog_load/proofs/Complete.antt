@@ -1,17 +1,16 @@
 -- The machine reads each catalogue, and stops where no catalogue goes on.
-use Rattle.std.proofs.Common.{◌≡◌, ◌∙◌, ℕ, ◌<◌, Bool, true, false, cond, List, [], ◌∷◌, ◌++◌, length, Option, Some, None, Result, Ok, Err, refl, sym, ap, subst, codes, append_assoc, arith, append-nil}
+use Rattle.std.proofs.Common.{◌≡◌, ◌∙◌, ℕ, ◌<◌, Bool, true, false, cond, List, [], ◌∷◌, ◌++◌, length, Option, Some, None, Result, Ok, refl, sym, ap, subst, codes, append_assoc, arith, append-nil}
 use Rattle.std.specs.List.{AllByRecursion, flat_map}
 use Rattle.postquel_tokens.specs.declared.form.Ident.{Ident}
 use Rattle.postquel_tokens.specs.declared.token.Token.{Token}
-use Rattle.postquel_tokens.specs.declared.token.TokenKind.TheVariants as kind
 use Rattle.postquel_tokens.specs.declared.token.Sign.TheVariants as sign
 use Rattle.catalog_load.specs.declared.form.ColumnForm.{ColumnForm}
 use Rattle.catalog_load.specs.declared.form.RelationForm.{RelationForm}
 use Rattle.catalog_load.specs.declared.machine.Place.{Place}
 use Rattle.catalog_load.specs.declared.machine.Place.TheVariants as place
-use Rattle.catalog_load.specs.Catalogs.{IsForm, IsPiece, Mark, Named, Piece, Quoted, Spell, Word, column_pieces, columns_pieces, entry_pieces, head_pieces, index_pieces, more_columns, type_word}
-use Rattle.catalog_load.specs.Machine.{State, finish, is_mark, is_word, mark_is, name_of, new_entry, new_column, nullable_column, quoted_of, run, step, type_of, with_column, with_index, word_is}
-use Rattle.catalog_load.proofs.Tokens.{name_passes, type_passes, word_passes}
+use Rattle.catalog_load.specs.Catalogs.{IsPiece, Mark, Named, Piece, Quoted, Spell, Word, column_pieces, columns_pieces, entry_pieces, head_pieces, index_pieces, more_columns, type_word}
+use Rattle.catalog_load.specs.Machine.{State, finish, new_entry, new_column, nullable_column, run, step, with_column, with_index}
+use Rattle.catalog_load.proofs.Tokens.{name_passes, type_passes}
 use Rattle.catalog_load.proofs.Leading.{HasColumns}
 
 -- one step of the machine

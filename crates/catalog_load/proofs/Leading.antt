@@ -1,21 +1,16 @@
 -- The machine reads exactly the catalogues.
-use Rattle.std.proofs.Common.{◌≡◌, ◌∙◌, ℕ, ◌<◌, ◌+◌, suc, zero, Bool, true, false, cond, List, [], ◌∷◌, ◌++◌, length, map, Option, Some, None, Result, Ok, Err, refl, sym, ap, subst, codes, append_assoc, arith, All}
-use Rattle.std.specs.List.{AllByRecursion, flat_map}
+use Rattle.std.proofs.Common.{◌≡◌, ◌∙◌, ◌<◌, Bool, true, false, cond, List, [], ◌∷◌, ◌++◌, length, Option, Some, None, refl, sym, ap, subst, codes, append_assoc, arith}
 use Rattle.std.specs.Option.{option_map}
 use Rattle.std.proofs.lemmas.List.{append-nil}
 use Rattle.std.proofs.lemmas.Grind.{flat_map-append}
-use Rattle.std.proofs.lemmas.List.Elements.{All-from_recursion}
-use Rattle.postquel_tokens.specs.declared.form.Ident.{Ident}
 use Rattle.postquel_tokens.specs.declared.token.Token.{Token}
-use Rattle.postquel_tokens.specs.declared.token.TokenKind.TheVariants as kind
 use Rattle.postquel_tokens.specs.declared.token.Sign.TheVariants as sign
-use Rattle.rows.specs.declared.field.ColType.{ColType}
 use Rattle.catalog_load.specs.declared.form.ColumnForm.{ColumnForm}
 use Rattle.catalog_load.specs.declared.form.RelationForm.{RelationForm}
 use Rattle.catalog_load.specs.declared.machine.Place.{Place}
 use Rattle.catalog_load.specs.declared.machine.Place.TheVariants as place
-use Rattle.catalog_load.specs.Catalogs.{IsForm, IsPiece, Mark, Named, Piece, Quoted, Spell, Word, column_pieces, columns_pieces, entry_pieces, head_pieces, index_pieces, more_columns, type_word}
-use Rattle.catalog_load.specs.Machine.{State, behind_column, behind_columns, behind_type, finish, fixed, if_mark, if_word, indexed, is_mark, is_word, mark_is, name_of, new_column, new_entry, nullable_column, quoted_of, run, stay, step, type_of, with_column, with_index, within, word_is}
+use Rattle.catalog_load.specs.Catalogs.{IsPiece, Mark, Named, Piece, Quoted, Word, column_pieces, columns_pieces, head_pieces, more_columns, type_word}
+use Rattle.catalog_load.specs.Machine.{behind_column, behind_type, is_mark, is_word, mark_is, name_of, new_column, new_entry, nullable_column, quoted_of, type_of, with_column, within, word_is}
 use Rattle.catalog_load.proofs.Tokens.{comma_told, equal_told, left_told, name_told, quoted_told, right_told, type_told, word_told}
 
 abbrev pub opened : List ColumnForm → List Piece

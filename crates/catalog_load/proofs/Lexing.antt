@@ -1,9 +1,9 @@
 -- A text has a token, its end at least.
-use Rattle.std.proofs.Common.{◌≡◌, ℕ, ◌<◌, ◌-◌, zero, suc, Bool, true, false, cond, List, [], ◌∷◌, length, Result, Ok, Err, refl, sym, arith}
+use Rattle.std.proofs.Common.{◌≡◌, ℕ, ◌<◌, ◌-◌, zero, suc, Bool, true, false, cond, List, [], ◌∷◌, length, Ok, Err, arith}
 use Rattle.std.specs.Str.{is_utf8}
 use Rattle.postquel_tokens.specs.declared.fault.Spot.{Spot}
 use Rattle.postquel_tokens.specs.declared.token.Token.{Token}
-use Rattle.postquel_tokens.specs.Lex.{Fault, Piece, Tokens, after, behind, is_blank, lex_of, piece, prepend, start, tokens_from, tokens_of}
+use Rattle.postquel_tokens.specs.Lex.{Piece, Tokens, after, behind, is_blank, lex_of, piece, prepend, start, tokens_from, tokens_of}
 
 abbrev HasSome : Tokens → Type 0
 HasSome (Ok ts) = 0 < length ts

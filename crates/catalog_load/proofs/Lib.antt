@@ -8,3 +8,5 @@ pub mod Sound
 pub mod Complete
 pub mod Answering
 pub mod Lexing
+pub mod Limits
+pub mod OneCatalog

@@ -1,7 +1,6 @@
 -- What a read of the next record does.
-use Rattle.std.proofs.Common.{◌≡◌, ◌∙◌, sym, refl, ap, inl, inr, Bool, true, false, List, [], ◌∷◌, ℕ, Some, Bor}
+use Rattle.std.proofs.Common.{◌≡◌, ◌∙◌, sym, refl, ap, inl, Bool, true, false, List, [], ◌∷◌, ℕ, Some, Bor}
 use Rattle.csv.specs.Reading.{Reached, ReadRecord, default_config, source_of}
-use Rattle.csv.specs.declared.parser.State.TheVariants as st
 use Rattle.csv.proofs.ReadFacts.{rows-end, rows-more}
 use Rattle.catalog_load.specs.Tables.{Record}
 use Rattle.catalog_load.specs.Records.{IsPlain, Pops, TextReader, known, left_in, records_at, is_between}

@@ -1,5 +1,5 @@
 -- What the machine reads is a catalogue.
-use Rattle.std.proofs.Common.{◌≡◌, ◌∙◌, ℕ, ◌<◌, Bool, true, false, cond, List, [], ◌∷◌, ◌++◌, length, Option, Some, None, Result, Ok, Err, refl, sym, ap, subst, codes, append_assoc, arith, append-nil}
+use Rattle.std.proofs.Common.{◌≡◌, ◌∙◌, Bool, true, false, cond, List, [], ◌∷◌, ◌++◌, Option, Some, None, refl, sym, ap, subst, codes, append_assoc, append-nil}
 use Rattle.std.specs.List.{AllByRecursion, flat_map}
 use Rattle.std.specs.Option.{option_map}
 use Rattle.std.proofs.lemmas.Grind.{flat_map-append}
@@ -11,7 +11,7 @@ use Rattle.catalog_load.specs.declared.form.RelationForm.{RelationForm}
 use Rattle.catalog_load.specs.declared.machine.Place.{Place}
 use Rattle.catalog_load.specs.declared.machine.Place.TheVariants as place
 use Rattle.catalog_load.specs.Catalogs.{IsForm, IsPiece, Mark, Named, Piece, Spell, Word, columns_pieces, entry_pieces, head_pieces}
-use Rattle.catalog_load.specs.Machine.{State, behind_columns, finish, indexed, is_word, name_of, run, stay, step, with_index, within, word_is}
+use Rattle.catalog_load.specs.Machine.{State, behind_columns, finish, indexed, name_of, stay, step, with_index, within, word_is}
 use Rattle.catalog_load.proofs.Tokens.{name_told, word_told}
 use Rattle.catalog_load.proofs.Leading.{HasColumns, Leads, Open, closed, leads, so_far}
 

@@ -1,6 +1,5 @@
 -- What a test of a token tells, and what a token of a kind passes.
-use Rattle.std.proofs.Common.{◌≡◌, ◌∙◌, ℕ, Bool, true, false, cond, List, [], ◌∷◌, Option, Some, None, refl, sym, ap, subst, codes}
-use Rattle.std.specs.Str.{bytes_eq}
+use Rattle.std.proofs.Common.{◌≡◌, ◌∙◌, ℕ, Bool, true, false, cond, List, Some, None, refl, ap, subst, codes}
 use Rattle.std.proofs.lemmas.Slice.Eq.{bytes_eq-Decides}
 use denote.Enum.Bare.{sameb}
 use Rattle.postquel_tokens.specs.contracts.token.Sign as sign_type
@@ -14,7 +13,7 @@ use Rattle.postquel_tokens.specs.declared.token.Sign.TheVariants as sign
 use Rattle.rows.specs.declared.field.ColType.{ColType}
 use Rattle.rows.specs.declared.field.ColType.TheVariants as col
 use Rattle.catalog_load.specs.Catalogs.{IsPiece, Named, Quoted, is_key, type_word}
-use Rattle.catalog_load.specs.Machine.{is_mark, is_word, mark_is, name_in, name_of, quoted_in, quoted_of, type_of, word_is}
+use Rattle.catalog_load.specs.Machine.{mark_is, name_in, name_of, quoted_in, quoted_of, type_of, word_is}
 
 pub word_told : (word : List ℕ) (k : TokenKind) → word_is word k ≡ true → k ≡ kind.Name word
 word_told word (kind.Name text) e = ap kind.Name ((bytes_eq-Decides text word).0 e)

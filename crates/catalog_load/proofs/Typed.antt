@@ -1,5 +1,5 @@
 -- The rows that a text writes are rows of the columns.
-use Rattle.std.proofs.Common.{◌≡◌, ℕ, zero, suc, ℤ, pos, neg_ℤ, ◌<◌, ◌≤◌, ◌+◌, ◌==◌, ◌&&◌, Bool, true, false, cond, List, [], ◌∷◌, length, Option, Some, None, Result, Ok, Err, refl, ap, sym, subst, arith, nat_lt, nat_le, codes, ◌||◌, All, FitsSigned}
+use Rattle.std.proofs.Common.{◌≡◌, ℕ, zero, suc, ℤ, pos, neg_ℤ, ◌<◌, ◌≤◌, ◌+◌, ◌==◌, ◌&&◌, Bool, true, false, cond, List, [], ◌∷◌, length, Option, Some, None, Result, Ok, Err, refl, ap, subst, arith, nat_lt, nat_le, codes, ◌||◌, All, FitsSigned}
 use Rattle.std.specs.Int.{w32}
 use Rattle.std.specs.List.{AllByRecursion}
 use Rattle.std.specs.Str.{is_utf8, bytes_eq}
@@ -18,7 +18,7 @@ use Rattle.rows.specs.RowBytes.{IsOfType, IsRowOf, IsValueOf, row_bytes}
 use Rattle.catalog_load.specs.declared.fault.LoadErr.{LoadErr}
 use Rattle.catalog_load.specs.declared.fault.LoadErr.TheVariants.{Fault}
 use Rattle.catalog_load.specs.declared.fault.TableWhat.TheVariants as what
-use Rattle.catalog_load.specs.Tables.{Record, all_or_first, behind, behind_header, cells, counted_row, first_difference, if_short, placed, records_of, row_of, rows_from, rows_of, rows_of_records, value_of}
+use Rattle.catalog_load.specs.Tables.{Record, all_or_first, behind, cells, counted_row, if_short, placed, row_of, rows_from, value_of}
 
 if_true : {A E : Type 0} (b : Bool) (x : Result A E) (e : E) (y : A) → cond b x (Err e) ≡ Ok y → (b ≡ true) × (x ≡ Ok y)
 if_true true x e y h = (refl, h)

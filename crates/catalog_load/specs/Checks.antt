@@ -1,5 +1,5 @@
 -- The relations of a catalogue's entries, or the first fault of these.
-use Rattle.std.specs.Prelude.{◌≡◌, List, [], ◌∷◌, ◌++◌, map, Option, Some, None, Result, Ok, Err}
+use Rattle.std.specs.Prelude.{◌≡◌, List, map, Option, Some, None, Result, Ok, Err}
 use Rattle.postquel_tokens.specs.declared.fault.TextErr.{TextErr}
 use Rattle.postquel_tokens.specs.declared.fault.TextErr.TheVariants as text_err
 use Rattle.rows.specs.declared.plain.Relation.{Relation}

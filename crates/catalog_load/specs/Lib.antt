@@ -4,3 +4,4 @@ pub mod Catalogs
 pub mod Machine
 pub mod Checks
 pub mod Readings
+pub mod Limits

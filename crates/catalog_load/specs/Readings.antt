@@ -1,5 +1,5 @@
 -- What a text is as a catalogue: its relations, or the first fault with its place.
-use Rattle.std.specs.Prelude.{◌≡◌, ◌⊎◌, ℕ, List, [], ◌∷◌, ◌++◌, map, Option, Some, None, Result, Ok, Err}
+use Rattle.std.specs.Prelude.{◌≡◌, ◌⊎◌, ℕ, List, [], ◌∷◌, ◌++◌, map, Some, None, Result, Ok, Err}
 use Rattle.postquel_tokens.specs.declared.fault.Spot.{Spot}
 use Rattle.postquel_tokens.specs.declared.fault.What.{What}
 use Rattle.postquel_tokens.specs.declared.fault.What.TheVariants as what
@@ -73,3 +73,7 @@ Tells text (Err NoMemory) = Unit {0}
 abbrev pub WritesOr : {A : Type 0} → (A → List RelationForm) → List ℕ → Result A TextErr → Type 0
 WritesOr view text (Ok found) = Writes text (view found)
 WritesOr view text (Err e) = Tells text (Err e)
+
+-- a text has one reading
+abbrev pub OneCatalog : Type 0
+OneCatalog = (text : List ℕ) (a b : Result (List Relation) (What × Spot)) → IsReading text a → IsReading text b → a ≡ b

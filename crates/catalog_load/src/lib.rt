@@ -12,6 +12,6 @@ mod table;
 mod tests;
 mod words;
 
-pub use catalog::read_catalog;
+pub use catalog::{one_catalog, read_catalog};
 pub use fault::{LoadErr, TableWhat};
 pub use table::load_table;

@@ -1,4 +1,4 @@
-use crate::{LoadErr, TableWhat, load_table, read_catalog};
+use crate::{LoadErr, TableWhat, load_table, one_catalog, read_catalog};
 use postquel_tokens::{TextErr, What};
 use rows::{Catalog, ColType, Rows, Value};
 use std::alloc::Global;
@@ -120,6 +120,7 @@ fn each_catalogue_has_its_first_fault_or_none(rt: HostRuntime) {
         assert_eq!(rt; fault_of(&found), *fault);
         assert_eq!(rt; found.is_ok(), fault.is_none());
     }
+    one_catalog();
 }
 
 #[test]

@@ -1,4 +1,4 @@
-use Rattle.std.proofs.Common.{◌≡◌, ◌∙◌, ap, Ok, arith, sym}
+use Rattle.std.proofs.Common.{◌∙◌, ap, Ok, arith, sym}
 use Rattle.catalog_load.proofs.Answering.{written}
 use Rattle.catalog_load.proofs.Lexing.{has_token}
 use Rattle.catalog_load.proofs.catalog.written.Goals as goal

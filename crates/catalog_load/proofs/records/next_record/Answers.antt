@@ -1,4 +1,3 @@
-use Rattle.std.proofs.Common.{◌≡◌}
 use Rattle.catalog_load.proofs.Pops.{plain_behind, pops}
 use Rattle.catalog_load.proofs.records.next_record.Goals as goal
 

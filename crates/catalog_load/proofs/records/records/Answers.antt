@@ -1,4 +1,4 @@
-use Rattle.std.proofs.Common.{◌≡◌, ◌∙◌, ap, refl}
+use Rattle.std.proofs.Common.{◌∙◌, ap, refl}
 use Rattle.catalog_load.specs.Records.{known, left_in, records_at}
 use Rattle.catalog_load.proofs.records.records.Goals as goal
 

@@ -1,4 +1,4 @@
-use Rattle.std.proofs.Common.{◌≡◌, ◌∙◌, sym, rules, length, arith, false, true, not, ap}
+use Rattle.std.proofs.Common.{◌∙◌, sym}
 use Rattle.csv.specs.Records.{fields_of}
 use Rattle.catalog_load.proofs.Cells.{other_name, same_name, names_longer}
 use Rattle.catalog_load.proofs.table.difference.Goals as goal
