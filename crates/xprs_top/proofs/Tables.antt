@@ -1,6 +1,9 @@
 -- Tables that are read one after another.
-use Rattle.std.proofs.Common.{◌≡◌, ℕ, ◌+◌, ◌<◌, ◌≤◌, List, [], ◌∷◌, ◌++◌, length, take, drop, get_or, map, refl, sym, ap, ◌∙◌, Option, Some, None, Ok, Err, Result, nat_abs, IsTrue, ℤ, arith}
+use Rattle.std.proofs.Common.{◌≡◌, ℕ, ◌+◌, ◌<◌, ◌≤◌, List, [], ◌∷◌, ◌++◌, length, take, drop, get_or, map, refl, sym, ap, ◌∙◌, Option, Some, None, Ok, Err, Result, nat_abs, IsTrue, ℤ, pos, negsuc, arith, ap₂}
 use Rattle.std.specs.List.{All}
+use Rattle.std.proofs.lemmas.List.{map-append}
+use Rattle.std.proofs.lemmas.List.Elements.{All-push}
+use Rattle.name_check.specs.Resolved.{AreTables}
 use Rattle.rows.specs.declared.plain.Relation.{Relation}
 use Rattle.rows.specs.declared.plain.Column.{Column}
 use Rattle.rows.specs.declared.field.ColType.{ColType}
@@ -59,7 +62,8 @@ faulty files (x ∷ xs) ys r ts s e f = by (table_of files x) refl e (λ us k. f
   by (Err t) g h again = absurd cc
 
 small : (n : ℤ) → FitsSigned w32 n → nat_abs n ≤ 2147483648
-small n fits = omega (arith, fits_in, fits)
+small (pos n) fits = omega (arith, fits)
+small (negsuc n) fits = omega (arith, fits)
 
 of_type : (t : ColType) (v : Value) → IsOfType t v → HasType v (record { col_type = t; bound = bound_at t })
 of_type t Null h = tt
@@ -92,6 +96,6 @@ is_table cs rows h k d lt = fits cs (get_or rows k d) (h k d lt)
 -- the tables and one more
 pub more_tables : (xs : List Relation) (ts : List Table) (r : Relation) (t : Table) → AreTables xs ts → t.columns ≡ r.columns → IsTable t → AreTables (xs ++ r ∷ []) (ts ++ t ∷ [])
 more_tables xs ts r t are same table = record {
-  columns = map-append (λ (u : Table). u.columns) ts (t ∷ []) ∙ (ap₂ (λ (as : List (List Column)) (b : List Column). as ++ b ∷ []) are.columns same ∙ sym (map-append (λ (u : Relation). u.columns) xs (r ∷ [])));
+  columns = map-append (λ (u : Table). u.columns) ts (t ∷ []) ∙ (ap₂ (λ (before : List (List Column)) (b : List Column). before ++ b ∷ []) are.columns same ∙ sym (map-append (λ (u : Relation). u.columns) xs (r ∷ [])));
   tables = All-push IsTable ts t are.tables table;
 }

@@ -127,13 +127,10 @@ fn table<S: Shelf>(alloc: Global, shelf: &mut S, relation: &Relation) -> Result<
     ensures rows { IfOk result IsTable }
 {
     let rows = table_input(alloc, shelf, relation)?;
-    match copied(alloc, relation.columns.items()) {
-        Ok(columns) => Ok(Table {
-            columns: Sequence::from_vec(columns),
-            rows,
-        }),
-        Err(_) => Err(Status::NoMemory),
-    }
+    Ok(Table {
+        columns: Sequence::from_vec(copied(alloc, relation.columns.items())?),
+        rows,
+    })
 }
 
 /// The tables of a catalogue, in its order.
@@ -150,9 +147,9 @@ pub(crate) fn read_tables<S: Shelf>(
 {
     let mut tables = Vec::new(alloc);
     for relation in catalog.items() {
-        let table = table(alloc, shelf, relation)?;
-        if tables.push(table).is_err() {
-            return Err(Status::NoMemory);
+        match table(alloc, shelf, relation) {
+            Ok(table) => tables.push(table)?,
+            Err(status) => return Err(status),
         }
     }
     Ok(Sequence::from_vec(tables))

@@ -1,9 +1,11 @@
 ghost use Rattle.std.specs.Prelude.{◌≡◌};
+ghost use Rattle.xprs_top.specs.declared.status.Status.TheVariants as status;
 ghost use Rattle.xprs_top.specs.Faults.{number_of};
 
 use catalog_load::TableWhat;
 use postquel::What;
 use rows::Text;
+use std::alloc::{AllocError, AllocFailed};
 
 /// Why an input was refused: a file isn't there, has more than 67,108,864 bytes, or has a fault. Lines, columns and
 /// records count from 1; the column of a table's fault is 0 where it is the record's as a whole.
@@ -64,6 +66,22 @@ impl Status {
             Status::NoMemory => 7,
             Status::NotBuilt => 9,
         }
+    }
+}
+
+impl From<AllocError> for Status {
+    ghost from_gives = { λ _ made. made ≡ status.NoMemory };
+
+    fn from(_error: AllocError) -> Status {
+        Status::NoMemory
+    }
+}
+
+impl<T: Drop> From<AllocFailed<T>> for Status {
+    ghost from_gives = { λ _ made. made ≡ status.NoMemory };
+
+    fn from(_refused: AllocFailed<T>) -> Status {
+        Status::NoMemory
     }
 }
 

@@ -83,10 +83,7 @@ fn answers_text(alloc: Global, read: &ReadScript, db: &Database) -> Result<Vec<u
     if has_unbuilt(&read.script) {
         return Err(Status::NotBuilt);
     }
-    match answers(alloc, db, read.queries.items()) {
-        Ok(text) => Ok(text),
-        Err(_) => Err(Status::NoMemory),
-    }
+    Ok(answers(alloc, db, read.queries.items())?)
 }
 
 // The answers of a checked script, over the tables of its catalogue.
@@ -105,10 +102,7 @@ fn alone_text<S: Shelf>(alloc: Global, shelf: &mut S, checked: &Checked) -> Resu
 fn check_text(alloc: Global, script: &Script) -> Result<Vec<u8>, Status>
     ensures { Finds (λ v. v.items) result (Just (Ok (script_text (program_of script.now)))) }
 {
-    match print(alloc, script) {
-        Ok(text) => Ok(text),
-        Err(_) => Err(Status::NoMemory),
-    }
+    Ok(print(alloc, script)?)
 }
 
 /// The text that the words ask for.

@@ -1,10 +1,9 @@
 use Rattle.std.proofs.Common.{◌≡◌, ◌∙◌}
 use Rattle.std.specs.List.{All}
-use Rattle.rows.specs.RowBytes.{IsRowOf}
 use Rattle.xprs_top.proofs.Tables.{is_table}
 use Rattle.xprs_top.proofs.input.table.Goals as goal
 
-pub returns-in-Ok-clause-rows : goal.returns-in-Ok-clause-rows
-returns-in-Ok-clause-rows g c =
-    let same : c.from_vec.result ≡ c.args.relation.now.columns = c.from_vec.ensures ∙ (c.in-Ok.ensures ∙ c.items.ensures) in
+pub returns-clause-rows : goal.returns-clause-rows
+returns-clause-rows g c =
+    let same : c.from_vec.result ≡ c.args.relation.now.columns = c.from_vec.ensures ∙ (c.in_ok-copied.ensures ∙ c.items.ensures) in
     is_table c.from_vec.result c.in_ok-rows.rows (rw same c.in_ok-rows.ensures.rows)
