@@ -73,7 +73,7 @@ pub more_told_at : (told then : Option Files) → then ≡ told → (xs : List R
     OnFiles told (λ files. tables_of files (take (i + 1) xs) ≡ Ok news)
 more_told_at told then same xs i r h is ts news t read shows columns pushed =
     more_told told then same xs i r h ts news t.rows read (subst (λ (q : Relation). OnFiles then (λ files. Just (table_of files q) (Ok t.rows))) is shows)
-      (pushed ∙ ap (λ (cs : List Column). ts ++ record { columns = cs; rows = t.rows } ∷ []) (columns ∙ ap (λ (q : Relation). q.columns) is))
+    (pushed ∙ ap (λ (cs : List Column). ts ++ record { columns = cs; rows = t.rows } ∷ []) (columns ∙ ap (λ (q : Relation). q.columns) is))
 
 pub tables_at : (xs : List Relation) (i : ℕ) (r : Relation) → i < length xs → r ≡ get_or xs i r → (ts news : List Table) (t : Table) → AreTables (take i xs) ts → t.columns ≡ r.columns → IsTable t → news ≡ ts ++ t ∷ [] →
     AreTables (take (i + 1) xs) news

@@ -6,7 +6,7 @@ pub returns-in-Err-clause-told : goal.returns-in-Err-clause-told
 returns-in-Err-clause-told g c =
     rw (← c.items-relation-items.ensures)
     (stopped_at (g.S.Shelf.files c.args.shelf.now) (g.S.Shelf.files c.loop-relation.shelf) c.loop-relation.invariant.files (g.S.Shelf.faults c.args.shelf.now) (g.S.Shelf.faults c.loop-relation.shelf) (g.S.Shelf.faults c.table.new.shelf)
-      c.loop-relation.invariant.count c.items-relation-items.result.now c.loop-relation.relation-index c.relation-item.result c.loop-relation-test.true c.relation-item.is c.loop-relation.tables.items c.loop-relation.invariant.told c.in-Err.status c.in-Err.ensures.told)
+    c.loop-relation.invariant.count c.items-relation-items.result.now c.loop-relation.relation-index c.relation-item.result c.loop-relation-test.true c.relation-item.is c.loop-relation.tables.items c.loop-relation.invariant.told c.in-Err.status c.in-Err.ensures.told)
 
 pub loop-relation-preserved : goal.loop-relation-preserved
 loop-relation-preserved g c = record {
