@@ -1,5 +1,5 @@
 -- Files are read as one text or have one first fault.
-use Rattle.std.proofs.Common.{◌≡◌, ℕ, List, map, refl, sym, ap, subst, ◌∙◌, inl, inr, Ok, Err, Result}
+use Rattle.std.proofs.Common.{◌≡◌, ℕ, List, map, sym, ap, subst, ◌∙◌, inl, inr, Ok, Err, Result}
 use Rattle.rows.specs.declared.plain.Relation.{Relation}
 use Rattle.postquel_tokens.specs.declared.fault.Spot.{Spot}
 use Rattle.postquel_tokens.specs.declared.fault.What.{What}
@@ -14,7 +14,7 @@ use Rattle.name_check.specs.Machine.{machine_steps}
 use Rattle.name_check.specs.Sentences.{heading_of, queries_of}
 use Rattle.xprs_top.specs.declared.status.Status.{Status}
 use Rattle.xprs_top.specs.Words.{Request}
-use Rattle.xprs_top.specs.Readings.{Checked, Files, InFile, IsCatalog, IsChecked, IsProgram, IsScript, IsText, Just, Then, check_of, checked_in, fetch_of, text_by, text_fault}
+use Rattle.xprs_top.specs.Readings.{Files, InFile, IsCatalog, IsChecked, IsProgram, IsScript, IsText, Just, Then, check_of, checked_in, fetch_of, text_by, text_fault}
 
 abbrev pub IsOne : {A E : Type 0} → (Result A E → Type 0) → Type 0
 IsOne {A} {E} read = (a b : Result A E) → read a → read b → a ≡ b

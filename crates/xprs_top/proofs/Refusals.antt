@@ -1,11 +1,9 @@
 -- Told files that give a text are answered, and so is a fault of theirs.
-use Rattle.std.proofs.Common.{◌≡◌, ℕ, List, Option, Some, None, Ok, Err, Result, subst, sym, ◌∙◌}
-use Rattle.xp_outside.specs.Outside.{Rose}
+use Rattle.std.proofs.Common.{◌≡◌, ℕ, List, Option, Some, Ok, Err, Result, subst}
 use Rattle.xprs_top.specs.declared.status.Status.{Status}
 use Rattle.xprs_top.specs.declared.status.Status.TheVariants.{Done, Usage, Refused, ShelfFault, SinkFault, NoMemory, NotBuilt}
-use Rattle.xprs_top.specs.Inputs.{OnFiles}
 use Rattle.xprs_top.specs.Readings.{Files, IsText}
-use Rattle.xprs_top.specs.Runs.{Caused, Completes, Faulty, Gives, Outside, Refuses, IsThisOrShelfFaultOrNoMemory, IsDoneOrNoMemory}
+use Rattle.xprs_top.specs.Runs.{Caused, Completes, Faulty, Gives, Outside, Refuses}
 use Rattle.xprs_top.specs.Words.{Request}
 use Rattle.xprs_top.proofs.OneText.{one_text}
 

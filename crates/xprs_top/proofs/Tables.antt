@@ -1,5 +1,5 @@
 -- Tables that are read one after another.
-use Rattle.std.proofs.Common.{◌≡◌, ℕ, ◌+◌, ◌<◌, ◌≤◌, List, [], ◌∷◌, ◌++◌, length, take, drop, get_or, map, refl, sym, ap, ◌∙◌, Option, Some, None, Ok, Err, Result, nat_abs, IsTrue, ℤ, pos, negsuc, arith, ap₂}
+use Rattle.std.proofs.Common.{◌≡◌, ◌≤◌, List, [], ◌∷◌, ◌++◌, get_or, map, refl, sym, ◌∙◌, Ok, Err, Result, nat_abs, ℤ, pos, negsuc, arith, ap₂}
 use Rattle.std.specs.List.{All}
 use Rattle.std.proofs.lemmas.List.{map-append}
 use Rattle.std.proofs.lemmas.List.Elements.{All-push}
@@ -16,7 +16,6 @@ use Rattle.rel_meaning.specs.Layouts.{FitsColumns, HasType}
 use Rattle.rel_meaning.specs.Meaning.{IsTable, layout_column, bound_at}
 use Rattle.std.specs.Int.{w32}
 use Rattle.std.proofs.Common.{FitsSigned}
-use borrow.Author.Differences.{fits_in}
 use Rattle.xprs_top.specs.declared.status.Status.{Status}
 use Rattle.xprs_top.specs.Readings.{Files, bind, table_of, tables_of}
 

@@ -1,5 +1,5 @@
 -- What is told of several files together.
-use Rattle.std.proofs.Common.{◌≡◌, ◌≤◌, ◌<◌, ◌+◌, ℕ, suc, List, ◌∷◌, ◌++◌, length, take, drop, get_or, refl, sym, ap, subst, ◌∙◌, arith, inl, inr, Option, Some, None, Ok, Err, Result, min, take-append-drop, take-suc, []}
+use Rattle.std.proofs.Common.{◌≡◌, ◌≤◌, ◌<◌, ◌+◌, ℕ, suc, List, ◌∷◌, ◌++◌, length, take, drop, get_or, sym, ap, subst, ◌∙◌, arith, inr, Option, Some, None, Ok, Err, Result, take-append-drop, take-suc, []}
 use Rattle.std.proofs.lemmas.List.{drop_more}
 use Rattle.rows.specs.declared.plain.Relation.{Relation}
 use Rattle.rows.specs.declared.value.Value.{Value}
@@ -7,7 +7,6 @@ use Rattle.rows.specs.declared.plain.Column.{Column}
 use Rattle.rel_meaning.specs.Meaning.{IsTable}
 use Rattle.name_check.specs.Resolved.{AreTables}
 use Rattle.rel_meaning.specs.declared.query.Table.{Table}
-use Rattle.xp_outside.specs.Outside.{Rose}
 use Rattle.xprs_top.specs.declared.status.Status.{Status}
 use Rattle.xprs_top.specs.declared.status.Status.TheVariants.{Done, Usage, Refused, ShelfFault, SinkFault, NoMemory, NotBuilt}
 use Rattle.xprs_top.specs.Inputs.{OnFiles, Shows, Told, Finds}

@@ -1,4 +1,4 @@
-use Rattle.std.proofs.Common.{◌≡◌, ◌∙◌, ap, List, ℕ}
+use Rattle.std.proofs.Common.{◌≡◌, ◌∙◌, ap}
 use Rattle.xp_outside.specs.Outside.{appended}
 use Rattle.xprs_top.specs.Words.{request_of}
 use Rattle.xprs_top.proofs.Spelled.{spelled}

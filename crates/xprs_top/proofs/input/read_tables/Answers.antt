@@ -1,4 +1,4 @@
-use Rattle.std.proofs.Common.{◌∙◌, ◌≤◌, le_trans}
+use Rattle.std.proofs.Common.{◌∙◌, le_trans}
 use Rattle.xprs_top.proofs.Told.{stopped_at, more_told_at, tables_at}
 use Rattle.xprs_top.proofs.input.read_tables.Goals as goal
 

@@ -1,5 +1,4 @@
 use Rattle.std.proofs.Common.{◌≡◌, ◌∙◌}
-use Rattle.std.specs.List.{All}
 use Rattle.xprs_top.proofs.Tables.{is_table}
 use Rattle.xprs_top.proofs.input.table.Goals as goal
 

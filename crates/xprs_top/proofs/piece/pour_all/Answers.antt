@@ -1,4 +1,3 @@
-use Rattle.std.proofs.Common.{length}
 use Rattle.xprs_top.specs.Faults.{piece_bytes}
 use Rattle.xprs_top.proofs.Fronts.{front_piece, front_all}
 use Rattle.xprs_top.proofs.piece.pour_all.Goals as goal

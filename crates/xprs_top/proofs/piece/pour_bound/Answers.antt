@@ -1,6 +1,4 @@
-use Rattle.std.proofs.Common.{◌++◌, codes, decimal, sym, subst, refl}
-use Rattle.xp_outside.specs.Outside.{AppendsFront}
-use Rattle.xprs_top.specs.Faults.{bound_text}
+use Rattle.std.proofs.Common.{codes, decimal}
 use Rattle.xprs_top.proofs.Fronts.{front_after}
 use Rattle.xprs_top.proofs.piece.pour_bound.Goals as goal
 
