@@ -1,3 +1,7 @@
 pub mod Fronts
-pub mod Refusals
+pub mod Tables
+pub mod Told
+pub mod Joined
 pub mod Spelled
+pub mod OneText
+pub mod Refusals

@@ -1,12 +1,13 @@
--- An input that was read is the one that the files spell.
-use Rattle.std.proofs.Common.{◌≡◌, ℕ, List, Option, Some, None, Ok, subst, sym}
-use Rattle.xprs_top.specs.Inputs.{Asked, Files, OnFiles, input_of}
-use Rattle.xprs_top.specs.Runs.{Spells, asked_text}
-use Rattle.xprs_top.specs.Words.{Names}
+-- A text that was made is the one that the files give.
+use Rattle.std.proofs.Common.{◌≡◌, ℕ, List, Option, Some, None, Ok, subst}
+use Rattle.xprs_top.specs.Inputs.{OnFiles}
+use Rattle.xprs_top.specs.Readings.{Files, IsText}
+use Rattle.xprs_top.specs.Runs.{Gives}
+use Rattle.xprs_top.specs.Words.{Request}
 
-pub spelled : (P : List ℕ → Type 0) (told : Option Files) (form : Option Names) (names : Names) (asked : Asked) → Some names ≡ form →
-    OnFiles told (λ files. input_of files names ≡ Ok asked) → P (asked_text asked) → Spells told form P
-spelled P told form names asked e read p = subst (λ f. Spells told f P) e (by told read) where
-  by : (t : Option Files) → OnFiles t (λ files. input_of files names ≡ Ok asked) → Spells t (Some names) P
+pub spelled : (P : List ℕ → Type 0) (told : Option Files) (form : Option Request) (request : Request) (text : List ℕ) → Some request ≡ form →
+    OnFiles told (λ files. IsText files request (Ok text)) → P text → Gives told form P
+spelled P told form request text e read p = subst (λ f. Gives told f P) e (by told read) where
+  by : (t : Option Files) → OnFiles t (λ files. IsText files request (Ok text)) → Gives t (Some request) P
   by None h = tt
-  by (Some files) h = (asked, h, p)
+  by (Some files) h = (text, h, p)

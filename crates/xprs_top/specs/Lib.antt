@@ -1,5 +1,6 @@
 pub mod Answers
 pub mod Faults
+pub mod Words
+pub mod Readings
 pub mod Inputs
 pub mod Runs
-pub mod Words

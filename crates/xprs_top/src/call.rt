@@ -1,27 +1,12 @@
-ghost use Rattle.std.specs.Prelude.{◌≡◌, ◌≤◌, IfOk, None, Some, [], map, string_bytes};
-ghost use Rattle.std.specs.Option.{option_map};
-ghost use Rattle.xprs_top.specs.Inputs.{asked_of};
-ghost use Rattle.xprs_top.specs.Runs.{Caused, Completes, Refuses, Tells, asked_text, outside};
+ghost use Rattle.std.specs.Prelude.{◌≡◌, ◌≤◌, None, Some, [], map, string_bytes};
+ghost use Rattle.xprs_top.specs.Runs.{Caused, Completes, Refuses, Tells, outside};
 ghost use Rattle.xprs_top.specs.Words.{form_of};
-ghost use Rattle.rel_meaning.specs.Expression.{question_of};
-ghost use Rattle.rel_meaning.specs.Meaning.{IsResolved};
 
-use crate::input::{Input, read_input};
-use crate::spelling::answer_text;
+use crate::text::wanted_text;
 use crate::words::read_words;
 use crate::{Outcome, Status, pour_fault};
-use rel_meaning::answer_plain;
-use std::alloc::{AllocError, Global};
+use std::alloc::Global;
 use xp_outside::{Rack, Shelf, Sink, pour};
-
-// The text that answers an input.
-fn input_text(alloc: Global, input: &Input) -> Result<Vec<u8>, AllocError>
-    requires { IsResolved input.now.db (question_of input.now.query) }
-    ensures { IfOk result (λ text. text.items ≡ asked_text (asked_of input.now)) }
-{
-    let rows = answer_plain(alloc, &input.db, &input.query)?;
-    answer_text(alloc, input.query.targets.items(), &rows)
-}
 
 // A run without its line.
 fn run<S: Shelf, W: Sink>(alloc: Global, words: &[String], shelf: &mut S, out: &mut W) -> Status
@@ -32,12 +17,9 @@ fn run<S: Shelf, W: Sink>(alloc: Global, words: &[String], shelf: &mut S, out: &
     let Some(operands) = read_words(words) else {
         return Status::Usage;
     };
-    let input = match read_input(alloc, shelf, &operands) {
-        Ok(input) => input,
+    let text = match wanted_text(alloc, shelf, &operands) {
+        Ok(text) => text,
         Err(status) => return status,
-    };
-    let Ok(text) = input_text(alloc, &input) else {
-        return Status::NoMemory;
     };
     match pour(out, text.as_slice()) {
         Ok(()) => Status::Done,
@@ -45,9 +27,10 @@ fn run<S: Shelf, W: Sink>(alloc: Global, words: &[String], shelf: &mut S, out: &
     }
 }
 
-/// Does all that the program does, on one thread: reads the words, fetches and reads the catalogue, the script and the
-/// table, answers the script's statement, and writes the text of the answer to `out` and the line of a fault to `err`.
-/// It always returns. A failure of `err` changes nothing else. No drive is mounted yet.
+/// Does all that the program does, on one thread: reads the words, fetches and reads the catalogue and the script, and
+/// writes a text to `out` and the line of a fault to `err`. For `check` the text is the script in its printed form; for
+/// `alone` the tables are fetched and read in catalogue order, and the text is the answers of the statements. It always
+/// returns. A failure of `err` changes nothing else. No drive is mounted yet.
 pub fn answer_alone<S: Shelf, K: Rack, W: Sink, E: Sink>(
     alloc: Global,
     words: &[String],

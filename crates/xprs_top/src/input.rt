@@ -1,57 +1,40 @@
-ghost use Rattle.std.specs.Prelude.{◌≡◌, ◌≤◌, IfOk};
-ghost use Rattle.first_forms.specs.Queries.{IsResolvedOver};
-ghost use Rattle.first_forms.specs.Tables.{AreRowsOf};
-ghost use Rattle.rel_meaning.specs.Expression.{question_of};
-ghost use Rattle.rel_meaning.specs.Meaning.{IsResolved};
-ghost use Rattle.xprs_top.specs.Inputs.{IsNaming, Told, asked_of, catalog_file, fetch_of, input_of, one_table, script_file, table_file};
-ghost use Rattle.xprs_top.specs.Words.{names_of};
+//! What the files of a shelf are read as.
+ghost use Rattle.std.specs.Prelude.{◌≡◌, ◌≤◌, All, IfOk, length};
+ghost use Rattle.postquel.specs.Program.{program_of};
+ghost use Rattle.name_check.specs.Resolved.{AreTables, Answerable};
+ghost use Rattle.rel_meaning.specs.Meaning.{IsTable};
+ghost use Rattle.rows.specs.RowBytes.{IsRowOf};
+ghost use Rattle.xprs_top.specs.Inputs.{Told, checked_of, read_of};
+ghost use Rattle.xprs_top.specs.Readings.{IsCatalog, IsChecked, IsScript, Just, fetch_of, table_of, tables_of};
+ghost use Rattle.xprs_top.specs.Words.{request_of};
 
+use crate::Status;
+use crate::refusal::{Naming, status_naming, table_refusal};
+use crate::script::{ReadScript, catalog_in, checked_script};
 use crate::words::Operands;
-use crate::{Refused, Status};
-use first_forms::{read_query, read_relation, read_rows};
-use lists::Sequence;
-use rel_meaning::{Database, Query, Table};
-use rows::{Relation, Rows, Text};
+use catalog_load::load_table;
+use lists::{Duplicate, Sequence};
+use rel_meaning::{Database, Table};
+use rows::{Catalog, Column, Relation, Rows};
 use std::alloc::{AllocError, Global};
 use xp_outside::{Shelf, ShelfErr};
-
-/// The tables and what is asked of them.
-#[derive(Drop)]
-pub(crate) struct Input {
-    pub db: Database,
-    pub query: Query,
-}
 
 /// The greatest number of bytes of a file, 64 MiB.
 const FILE_LIMIT: u64 = 67_108_864;
 
-// Why a file is named.
-#[derive(Clone, Copy)]
-enum Naming {
-    Missing,
-    TooLong,
-    NotBuilt,
-}
-
-// A status that names a file.
-fn status_naming(alloc: Global, name: &[u8], which: Naming) -> Status
-    ensures { IsNaming which name.now result }
-{
-    match Text::from_slice(alloc, name) {
-        Ok(name) => match which {
-            Naming::Missing => Status::Refused(Refused::Missing { name }),
-            Naming::TooLong => Status::Refused(Refused::TooLong { name }),
-            Naming::NotBuilt => Status::NotBuilt { name },
-        },
-        Err(_) => Status::NoMemory,
-    }
+/// A catalogue, and a script that passed its checks over it.
+#[derive(Drop)]
+pub(crate) struct Checked {
+    pub catalog: Catalog,
+    pub read: ReadScript,
 }
 
 // The bytes of a file.
 fn fetched<S: Shelf>(alloc: Global, shelf: &mut S, name: &[u8]) -> Result<Vec<u8>, Status>
     ensures files { S.files shelf.new ≡ S.files shelf.old }
     ensures count { S.faults shelf.old ≤ S.faults shelf.new }
-    ensures told { Told (S.files shelf.old) (S.faults shelf.old) (S.faults shelf.new) (λ v. v.items) result (λ files. fetch_of files name.now) }
+    ensures told { Told (S.files shelf.old) (S.faults shelf.old) (S.faults shelf.new) (λ v. v.items) result (λ files. Just (fetch_of files name.now)) }
+    ensures small { IfOk result (λ bytes. length bytes.items ≤ 67108864) }
 {
     match shelf.fetch(alloc, name, FILE_LIMIT) {
         Ok(bytes) => Ok(bytes),
@@ -62,82 +45,112 @@ fn fetched<S: Shelf>(alloc: Global, shelf: &mut S, name: &[u8]) -> Result<Vec<u8
     }
 }
 
-// The relation of the catalogue.
-fn catalog_input<S: Shelf>(alloc: Global, shelf: &mut S, name: &[u8]) -> Result<Relation, Status>
+fn catalog_input<S: Shelf>(alloc: Global, shelf: &mut S, name: &[u8]) -> Result<Catalog, Status>
     ensures files { S.files shelf.new ≡ S.files shelf.old }
     ensures count { S.faults shelf.old ≤ S.faults shelf.new }
-    ensures told { Told (S.files shelf.old) (S.faults shelf.old) (S.faults shelf.new) (λ r. r) result (λ files. catalog_file files name.now) }
+    ensures told { Told (S.files shelf.old) (S.faults shelf.old) (S.faults shelf.new) (λ c. c) result (λ files. IsCatalog files name.now) }
+    ensures few { IfOk result (λ catalog. All (λ r. length r.columns ≤ 32) catalog) }
 {
     let bytes = fetched(alloc, shelf, name)?;
-    match read_relation(alloc, bytes.as_slice()) {
-        Ok(Some(relation)) => Ok(relation),
-        Ok(None) => Err(status_naming(alloc, name, Naming::NotBuilt)),
-        Err(_) => Err(Status::NoMemory),
-    }
+    catalog_in(alloc, name, bytes.as_slice())
 }
 
-// What the script asks of the relation.
 fn script_input<S: Shelf>(
     alloc: Global,
     shelf: &mut S,
-    relation: &Relation,
+    catalog: &Catalog,
     name: &[u8],
-) -> Result<Query, Status>
+) -> Result<ReadScript, Status>
     ensures files { S.files shelf.new ≡ S.files shelf.old }
     ensures count { S.faults shelf.old ≤ S.faults shelf.new }
-    ensures told { Told (S.files shelf.old) (S.faults shelf.old) (S.faults shelf.new) question_of result (λ files. script_file files relation.now name.now) }
-    ensures resolved { IfOk result (λ query. IsResolvedOver relation.now.columns (question_of query)) }
+    ensures told { Told (S.files shelf.old) (S.faults shelf.old) (S.faults shelf.new) (checked_of catalog.now) result (λ files. IsScript files catalog.now name.now) }
+    ensures answerable { IfOk result (λ read. Answerable catalog.now (program_of read.script).sentences read.queries) }
 {
     let bytes = fetched(alloc, shelf, name)?;
-    match read_query(alloc, relation, bytes.as_slice()) {
-        Ok(Some(query)) => Ok(query),
-        Ok(None) => Err(status_naming(alloc, name, Naming::NotBuilt)),
-        Err(_) => Err(Status::NoMemory),
-    }
+    checked_script(alloc, name, bytes.as_slice(), catalog)
 }
 
-// The rows of the relation's file.
-fn table_input<S: Shelf>(alloc: Global, shelf: &mut S, relation: &Relation) -> Result<Rows, Status>
-    ensures files { S.files shelf.new ≡ S.files shelf.old }
-    ensures count { S.faults shelf.old ≤ S.faults shelf.new }
-    ensures told { Told (S.files shelf.old) (S.faults shelf.old) (S.faults shelf.new) (λ r. r) result (λ files. table_file files relation.now) }
-    ensures rows { IfOk result (AreRowsOf relation.now.columns) }
-{
-    let name = relation.file.items();
-    let bytes = fetched(alloc, shelf, name)?;
-    match read_rows(alloc, relation, bytes.as_slice()) {
-        Ok(Some(rows)) => Ok(rows),
-        Ok(None) => Err(status_naming(alloc, name, Naming::NotBuilt)),
-        Err(_) => Err(Status::NoMemory),
-    }
-}
-
-// The database of the relation alone.
-fn database(alloc: Global, relation: Relation, rows: Rows) -> Result<Database, AllocError>
-    ensures { IfOk result (λ db. db ≡ one_table relation rows) }
-{
-    let Relation { columns, .. } = relation;
-    let mut tables = Vec::new(alloc);
-    tables.push(Table { columns, rows })?;
-    Ok(Sequence::from_vec(tables))
-}
-
-/// The input that the files spell.
-pub(crate) fn read_input<S: Shelf>(
+/// The catalogue and the script that the files are.
+pub(crate) fn read_checked<S: Shelf>(
     alloc: Global,
     shelf: &mut S,
     operands: &Operands<'_>,
-) -> Result<Input, Status>
+) -> Result<Checked, Status>
     ensures files { S.files shelf.new ≡ S.files shelf.old }
     ensures count { S.faults shelf.old ≤ S.faults shelf.new }
-    ensures told { Told (S.files shelf.old) (S.faults shelf.old) (S.faults shelf.new) asked_of result (λ files. input_of files (names_of operands.now)) }
-    ensures resolved { IfOk result (λ input. IsResolved input.db (question_of input.query)) }
+    ensures told { Told (S.files shelf.old) (S.faults shelf.old) (S.faults shelf.new) read_of result (λ files. IsChecked files (request_of operands.now)) }
+    ensures few { IfOk result (λ checked. All (λ r. length r.columns ≤ 32) checked.catalog) }
+    ensures answerable { IfOk result (λ checked. Answerable checked.catalog (program_of checked.read.script).sentences checked.read.queries) }
 {
-    let relation = catalog_input(alloc, shelf, operands.catalog)?;
-    let query = script_input(alloc, shelf, &relation, operands.script)?;
-    let rows = table_input(alloc, shelf, &relation)?;
-    match database(alloc, relation, rows) {
-        Ok(db) => Ok(Input { db, query }),
-        Err(_) => Err(Status::NoMemory),
+    let catalog = catalog_input(alloc, shelf, operands.catalog)?;
+    let read = script_input(alloc, shelf, &catalog, operands.script)?;
+    Ok(Checked { catalog, read })
+}
+
+// The rows of a relation's file.
+fn table_input<S: Shelf>(alloc: Global, shelf: &mut S, relation: &Relation) -> Result<Rows, Status>
+    requires { length relation.now.columns ≤ 32 }
+    ensures files { S.files shelf.new ≡ S.files shelf.old }
+    ensures count { S.faults shelf.old ≤ S.faults shelf.new }
+    ensures told { Told (S.files shelf.old) (S.faults shelf.old) (S.faults shelf.new) (λ r. r) result (λ files. Just (table_of files relation.now)) }
+    ensures rows { IfOk result (All (IsRowOf relation.now.columns)) }
+{
+    let name = relation.file.items();
+    let bytes = fetched(alloc, shelf, name)?;
+    match load_table(alloc, bytes.as_slice(), relation) {
+        Ok(rows) => Ok(rows),
+        Err(fault) => Err(table_refusal(alloc, name, fault)),
     }
+}
+
+fn copied(alloc: Global, columns: &[Column]) -> Result<Vec<Column>, AllocError>
+    ensures { IfOk result (λ copy. copy.items ≡ columns.now) }
+{
+    let mut copy = Vec::new(alloc);
+    for column in columns {
+        copy.push(Column {
+            name: column.name.duplicate(alloc)?,
+            col_type: column.col_type,
+            nullable: column.nullable,
+        })?;
+    }
+    Ok(copy)
+}
+
+// The table of a relation.
+fn table<S: Shelf>(alloc: Global, shelf: &mut S, relation: &Relation) -> Result<Table, Status>
+    requires { length relation.now.columns ≤ 32 }
+    ensures files { S.files shelf.new ≡ S.files shelf.old }
+    ensures count { S.faults shelf.old ≤ S.faults shelf.new }
+    ensures told { Told (S.files shelf.old) (S.faults shelf.old) (S.faults shelf.new) (λ t. t.rows) result (λ files. Just (table_of files relation.now)) }
+    ensures columns { IfOk result (λ t. t.columns ≡ relation.now.columns) }
+    ensures rows { IfOk result IsTable }
+{
+    let rows = table_input(alloc, shelf, relation)?;
+    Ok(Table {
+        columns: Sequence::from_vec(copied(alloc, relation.columns.items())?),
+        rows,
+    })
+}
+
+/// The tables of a catalogue, in its order.
+pub(crate) fn read_tables<S: Shelf>(
+    alloc: Global,
+    shelf: &mut S,
+    catalog: &Catalog,
+) -> Result<Database, Status>
+    requires { All (λ r. length r.columns ≤ 32) catalog.now }
+    ensures files { S.files shelf.new ≡ S.files shelf.old }
+    ensures count { S.faults shelf.old ≤ S.faults shelf.new }
+    ensures told { Told (S.files shelf.old) (S.faults shelf.old) (S.faults shelf.new) (λ db. db) result (λ files. Just (tables_of files catalog.now)) }
+    ensures tables { IfOk result (AreTables catalog.now) }
+{
+    let mut tables = Vec::new(alloc);
+    for relation in catalog.items() {
+        match table(alloc, shelf, relation) {
+            Ok(table) => tables.push(table)?,
+            Err(status) => return Err(status),
+        }
+    }
+    Ok(Sequence::from_vec(tables))
 }

@@ -4,10 +4,14 @@
 mod call;
 mod fault;
 mod input;
+mod piece;
+mod refusal;
+mod script;
 mod spelling;
 mod status;
 #[cfg(test)]
 mod tests;
+mod text;
 mod words;
 
 pub use call::answer_alone;

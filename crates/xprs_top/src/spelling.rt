@@ -60,15 +60,16 @@ fn name_fields(alloc: Global, targets: &[Target]) -> Result<Vec<Vec<u8>>, AllocE
     Ok(fields)
 }
 
-/// The text of an answer: the names of the targets, and then the rows.
+/// Adds an answer to a text: the names of the targets, and then the rows.
 pub(crate) fn answer_text(
     alloc: Global,
+    text: Vec<u8>,
     targets: &[Target],
     rows: &Rows,
 ) -> Result<Vec<u8>, AllocError>
-    ensures { IfOk result (λ text. text.items ≡ answer_bytes (map output_of targets.now) rows.now) }
+    ensures { IfOk result (λ v. v.items ≡ text.items ++ answer_bytes (map output_of targets.now) rows.now) }
 {
-    let mut writer = WriterBuilder::new().from_writer(Vec::new(alloc));
+    let mut writer = WriterBuilder::new().from_writer(text);
     let names = name_fields(alloc, targets)?;
     put_record(alloc, &mut writer, names.as_slice())?;
     for row in rows.items() {

@@ -1,19 +1,42 @@
 ghost use Rattle.std.specs.Prelude.{◌≡◌};
+ghost use Rattle.xprs_top.specs.declared.status.Status.TheVariants as status;
 ghost use Rattle.xprs_top.specs.Faults.{number_of};
 
+use catalog_load::TableWhat;
+use postquel::What;
 use rows::Text;
+use std::alloc::{AllocError, AllocFailed};
 
-/// Why an input was refused: the file isn't there, or has more than 67,108,864 bytes.
+/// Why an input was refused: a file isn't there, has more than 67,108,864 bytes, or has a fault. Lines, columns and
+/// records count from 1; the column of a table's fault is 0 where it is the record's as a whole.
 #[derive(Debug, Drop)]
 pub enum Refused {
-    Missing { name: Text },
-    TooLong { name: Text },
+    Missing {
+        name: Text,
+    },
+    TooLong {
+        name: Text,
+    },
+    /// A fault of the catalogue or of the script.
+    Script {
+        name: Text,
+        line: u32,
+        col: u32,
+        what: What,
+    },
+    /// A fault of a table.
+    Table {
+        name: Text,
+        number: u32,
+        column: u32,
+        what: TableWhat,
+    },
 }
 
 /// How a run ended.
 #[derive(Debug, Drop)]
 pub enum Status {
-    /// The whole answer was written.
+    /// The whole text was written.
     Done,
     /// The words are no form of the program's.
     Usage,
@@ -21,12 +44,12 @@ pub enum Status {
     Refused(Refused),
     /// A file could not be read.
     ShelfFault,
-    /// The answer could not be written whole.
+    /// The text could not be written whole.
     SinkFault,
     /// Memory was wanting.
     NoMemory,
-    /// A file is written in a form that isn't read yet.
-    NotBuilt { name: Text },
+    /// The script has a fold or keeps an answer, which isn't built yet.
+    NotBuilt,
 }
 
 impl Status {
@@ -41,8 +64,24 @@ impl Status {
             Status::ShelfFault => 3,
             Status::SinkFault => 6,
             Status::NoMemory => 7,
-            Status::NotBuilt { .. } => 9,
+            Status::NotBuilt => 9,
         }
+    }
+}
+
+impl From<AllocError> for Status {
+    ghost from_gives = { λ _ made. made ≡ status.NoMemory };
+
+    fn from(_error: AllocError) -> Status {
+        Status::NoMemory
+    }
+}
+
+impl<T: Drop> From<AllocFailed<T>> for Status {
+    ghost from_gives = { λ _ made. made ≡ status.NoMemory };
+
+    fn from(_refused: AllocFailed<T>) -> Status {
+        Status::NoMemory
     }
 }
 

@@ -2,176 +2,250 @@ use crate::answer_alone;
 use lists::Sequence;
 use std::alloc::{AllocError, Global};
 use std::test::Fail;
-use xp_outside::{MemRack, MemShelf, MemSink, NamedFile, NumberList};
+use xp_outside::{FileList, MemRack, MemShelf, MemSink, NamedFile, NumberList};
 
-const CATALOG: &[u8] = b"relation EMP from \"emp.csv\" (name = text, dept = text, sal = int4)\n";
+// The files: a name, and the bytes with `|` for a line feed.
+const FILES: [(&str, &str); 7] = [
+    (
+        "cat",
+        "relation EMP from \"emp.csv\" (name = text, dept = text, sal = int4)|relation DEPT from \"dept.csv\" (dname = text, floor = int4)|relation E from \"e.csv\" (a = int4)|relation ITEM from \"item.csv\" (id = int4, title = text, price = int4, sold = bool) index id|relation P from \"p.csv\" (n = text, a = int4 null, b = int4 null)|",
+    ),
+    ("q", "retrieve (EMP.name) where EMP.sal > 1000 \\g|"),
+    (
+        "emp.csv",
+        "name,dept,sal|Ann,toy,1200|Bob,toy,900|Cid,shoe,1500|",
+    ),
+    ("dept.csv", "dname,floor|toy,2|shoe,1|candy,2|"),
+    ("e.csv", "a|1|"),
+    (
+        "item.csv",
+        "id,title,price,sold|10,\"Lamp, small\",2500,t|11,Chair,4000,false|12,Desk,12000,f|7,\"12\"\" ruler\",150,true|",
+    ),
+    ("p.csv", "n,a,b|x,1,2|y,,2|z,3,|"),
+];
 
-const SCRIPT: &[u8] = b"retrieve (EMP.name) where EMP.sal > 1000 \\g\n";
+// Each line is a verb, a script, and the number of the status and the bytes written, with `|` for a line feed.
+const SCRIPTS: &str = "alone retrieve (EMP.name) where EMP.sal > 1000 \\g -> 0 name|Ann|Cid|
+alone retrieve (EMP.dept) \\g -> 0 dept|shoe|toy|toy|
+alone retrieve unique (EMP.dept) \\g -> 0 dept|shoe|toy|
+alone retrieve (e.name, d.floor, x = f.name) from e in EMP, d in DEPT, f in EMP where e.dept = d.dname and f.sal = 900 \\g -> 0 name,floor,x|Ann,2,Bob|Bob,2,Bob|Cid,1,Bob|
+alone retrieve (x = E.a * E.a * E.a) \\g -> 2 xprs: q:1:25: TooWide 9903520314283042199192993792|
+alone retrieve (x = E.a * E.a) \\g -> 0 x|1|
+alone retrieve (EMP.name) where EMP.name = \"ab -> 2 xprs: q:1:38: UnclosedText|
+alone retrieve (EMP.name)| -> 2 xprs: q:2:1: Unexpected|
+alone  -> 0 
+alone retrieve (ITEM.title, gross = ITEM.price * 119) where ITEM.id >= 8 and not ITEM.sold sort by gross using > \\g retrieve (i.all) from i in ITEM where i.sold \\g -> 0 title,gross|Desk,1428000|Chair,476000||id,title,price,sold|7,\"12\"\" ruler\",150,t|10,\"Lamp, small\",2500,t|
+check retrieve(x=(1+2)*3,EMP.all)where not(true or false)\\g -> 0 retrieve (x = (1 + 2) * 3, EMP.all) where not (true or false) \\g|
+alone machine 2 after 1 \\g retrieve (x = 1) \\g -> 0 x|1|
+alone retrieve (P.n) where P.a < P.b or P.a = 3 \\g -> 0 n|x|z|
+alone retrieve (P.a, P.n) \\g -> 0 a,n|,y|1,x|3,z|
+alone retrieve (P.n, s = P.a + P.b) where P.b is not null \\g -> 0 n,s|x,3|y,|
+alone retrieve (p.n, m = q.n) from p in P, q in P where p.a = q.a \\g -> 0 n,m|x,x|z,z|
+check machine 65 after 1 \\g -> 2 xprs: q:1:9: BadDegree|
+check machine 2 after 3, 4 after 3 \\g -> 2 xprs: q:1:28: BadStep|
+check machine 2 after 01,8 after 3\\g -> 0 machine 2 after 1, 8 after 3 \\g|
+check retrieve into EMP (x = 1) \\g -> 2 xprs: q:1:15: DoubleRelation|
+check retrieve into T (n = count(EMP.name)) \\g -> 2 xprs: q:1:10: FoldInto|
+check retrieve (T.x) \\g retrieve into T (x = 1) \\g -> 2 xprs: q:1:11: NoRange|
+alone retrieve into T (x = 1) \\g -> 9 xprs: folds and into are not built yet|
+alone retrieve (n = count(EMP.name)) \\g -> 9 xprs: folds and into are not built yet|";
 
-const TABLE: &[u8] = b"name,dept,sal\nAnn,toy,1200\nBob,toy,900\nCid,shoe,1500\n";
+// Each line is a file and its other bytes, a script, and what is answered.
+const OTHERS: &str =
+    "emp.csv  @ retrieve (EMP.name) \\g -> 2 xprs: emp.csv: record 1 column 0: NoHeader|
+emp.csv name,dpt,sal| @ retrieve (EMP.name) \\g -> 2 xprs: emp.csv: record 1 column 2: BadHeader|
+emp.csv name,dept| @ retrieve (EMP.name) \\g -> 2 xprs: emp.csv: record 1 column 3: BadHeader|
+emp.csv name,dept,sal|Ann,toy,1200|Bob,toy,2147483648| @ retrieve (EMP.name) \\g -> 2 xprs: emp.csv: record 3 column 3: OutOfInt4|
+emp.csv name,dept,sal|Ann,toy,-2147483648| @ retrieve (EMP.sal) \\g -> 0 sal|-2147483648|
+emp.csv name,dept,sal| @ retrieve (EMP.name) \\g -> 0 name|
+emp.csv name,dept,sal|Ann,toy,1200|Bob,toy,900|Cid,shoe,1500|Abe,toy,900| @ retrieve (EMP.name, EMP.sal) sort by sal using > \\g -> 0 name,sal|Cid,1500|Ann,1200|Abe,900|Bob,900|
+emp.csv name,dept,sal|Ann| @ retrieve (n = count(EMP.name)) \\g -> 2 xprs: emp.csv: record 2 column 0: FieldCount|
+cat relation A from \"a\" (x = int4, x = bool) @ retrieve (x = ) \\g -> 2 xprs: cat:1:32: DoubleColumn|
+cat relation P from \"p.csv\" (n = text null, a = int4 null, b = int4 null) @ retrieve unique (P.b) where P.n is null or P.b is null \\g -> 0 b|\"\"|
+cat relation Z from \"z.csv\" (n = text) @ retrieve (x = 1) \\g -> 2 xprs: z.csv: missing|";
 
-// What a run is given: the words, the catalogue's name, the script, the table, the calls of the shelf and of the output
-// that fail, and how many bytes the output takes at once.
+// The calls of the shelf and of the output that fail, and how many bytes the output takes at once.
 #[derive(Clone, Copy)]
-struct Case<'a> {
-    words: &'a [&'a str],
-    catalog: &'a [u8],
-    script: &'a [u8],
-    table: &'a [u8],
+struct Devices<'a> {
     shelf_fails: &'a [u64],
     out_fails: &'a [u64],
     most: u32,
 }
 
-// The first worked example: one comparison over three rows.
-const FIRST: Case<'static> = Case {
-    words: &["alone", "cat", "q"],
-    catalog: b"cat",
-    script: SCRIPT,
-    table: TABLE,
+const SOUND: Devices<'static> = Devices {
     shelf_fails: &[],
     out_fails: &[],
     most: 4096,
 };
 
-// What a run left.
-#[derive(Drop)]
-struct Left {
-    status: u8,
-    drives: usize,
-    out: MemSink,
-    err: MemSink,
-}
-
-fn file(alloc: Global, name: &[u8], bytes: &[u8]) -> Result<NamedFile, AllocError> {
-    Ok(NamedFile {
-        name: Vec::from_slice(alloc, name)?,
-        bytes: Vec::from_slice(alloc, bytes)?,
-    })
+// The bytes of a text with a line feed for each `|`.
+fn lines(alloc: Global, text: &str) -> Result<Vec<u8>, AllocError> {
+    let mut bytes = Vec::new(alloc);
+    for byte in text.bytes() {
+        bytes.push(if byte == b'|' { b'\n' } else { byte })?;
+    }
+    Ok(bytes)
 }
 
 fn numbers(alloc: Global, numbers: &[u64]) -> Result<NumberList, AllocError> {
     Ok(Sequence::from_vec(Vec::from_slice(alloc, numbers)?))
 }
 
-fn shelf(alloc: Global, case: &Case<'_>) -> Result<MemShelf, AllocError> {
-    let files = vec![in alloc;
-        file(alloc, case.catalog, CATALOG)?,
-        file(alloc, b"q", case.script)?,
-        file(alloc, b"emp.csv", case.table)?,
-    ]?;
-    let fails = numbers(alloc, case.shelf_fails)?;
-    Ok(MemShelf::new(Sequence::from_vec(files), fails))
-}
-
-fn words(alloc: Global, case: &Case<'_>) -> Result<Vec<String>, AllocError> {
-    let mut words = Vec::new(alloc);
-    for word in case.words {
-        words.push(String::from_str(alloc, word)?)?;
+// The files, with other bytes for some of them.
+fn files(alloc: Global, others: &[(&str, &str)]) -> Result<FileList, AllocError> {
+    let mut files = Vec::new(alloc);
+    for (name, text) in others.iter().chain(FILES.iter()) {
+        files.push(NamedFile {
+            name: Vec::from_slice(alloc, name.as_bytes())?,
+            bytes: lines(alloc, text)?,
+        })?;
     }
-    Ok(words)
+    Ok(Sequence::from_vec(files))
 }
 
-fn left_by(alloc: Global, case: &Case<'_>) -> Result<Left, AllocError> {
-    let words = words(alloc, case)?;
-    let mut shelf = shelf(alloc, case)?;
+// The number of the status, a space, and what was written to the output and then of the fault.
+fn answer(
+    alloc: Global,
+    words: &[&str],
+    files: FileList,
+    devices: Devices<'_>,
+) -> Result<Vec<u8>, AllocError> {
+    let mut given = Vec::new(alloc);
+    for word in words {
+        given.push(String::from_str(alloc, word)?)?;
+    }
+    let mut shelf = MemShelf::new(files, numbers(alloc, devices.shelf_fails)?);
     let none = Sequence::new(alloc);
     let mut rack = MemRack::new(8, none, Sequence::new(alloc), Sequence::new(alloc));
-    let mut out = MemSink::new(alloc, case.most, numbers(alloc, case.out_fails)?);
+    let mut out = MemSink::new(alloc, devices.most, numbers(alloc, devices.out_fails)?);
     let mut err = MemSink::new(alloc, 4096, Sequence::new(alloc));
     let outcome = answer_alone(
         alloc,
-        words.as_slice(),
+        given.as_slice(),
         &mut shelf,
         &mut rack,
         &mut out,
         &mut err,
     );
-    Ok(Left {
-        status: outcome.status.number(),
-        drives: outcome.drives.len(),
-        out,
-        err,
-    })
+    let mut left = Vec::new(alloc);
+    left.push(b'0' + outcome.status.number() % 10)?;
+    left.push(b' ')?;
+    left.extend_from_slice(out.bytes())?;
+    left.extend_from_slice(err.bytes())?;
+    Ok(left)
 }
 
 #[test]
-fn each_answer_is_printed_and_each_fault_named(rt: HostRuntime) -> Result<(), Fail> {
+fn each_script_is_answered_or_refused_at_its_place(rt: HostRuntime) -> Result<(), Fail> {
     let alloc = rt.alloc();
-    let cases: [(Case<'_>, u8, &[u8], &[u8]); 9] = [
-        (FIRST, 0, b"name\nAnn\nCid\n", b""),
-        (Case { most: 1, ..FIRST }, 0, b"name\nAnn\nCid\n", b""),
+    for line in SCRIPTS.lines() {
+        let (case, wanted) = line.split_once(" -> ").unwrap_or(("", ""));
+        let (verb, script) = case.split_once(" ").unwrap_or(("", ""));
+        let left = answer(
+            alloc,
+            &[verb, "cat", "q"],
+            files(alloc, &[("q", script)])?,
+            SOUND,
+        )?;
+        assert_eq!(rt; left.as_slice(), lines(alloc, wanted)?.as_slice());
+    }
+    for line in OTHERS.lines() {
+        let (case, wanted) = line.split_once(" -> ").unwrap_or(("", ""));
+        let (other, script) = case.split_once(" @ ").unwrap_or(("", ""));
+        let (name, bytes) = other.split_once(" ").unwrap_or(("", ""));
+        let left = answer(
+            alloc,
+            &["alone", "cat", "q"],
+            files(alloc, &[("q", script), (name, bytes)])?,
+            SOUND,
+        )?;
+        assert_eq!(rt; left.as_slice(), lines(alloc, wanted)?.as_slice());
+    }
+    Ok(())
+}
+
+#[test]
+fn words_and_devices_have_their_statuses(rt: HostRuntime) -> Result<(), Fail> {
+    let alloc = rt.alloc();
+    let words: [(&[&str], &str); 5] = [
+        (&[], "1 xprs: usage|"),
+        (&["alone", "cat"], "1 xprs: usage|"),
+        (&["check", "cat", "q", "--trace"], "1 xprs: usage|"),
+        (&["alone", "-cat", "q"], "1 xprs: usage|"),
+        (&["alone", "nothing", "q"], "2 xprs: nothing: missing|"),
+    ];
+    for (words, wanted) in words {
+        let left = answer(alloc, words, files(alloc, &[])?, SOUND)?;
+        assert_eq!(rt; left.as_slice(), lines(alloc, wanted)?.as_slice());
+    }
+    let devices: [(Devices<'_>, &str); 4] = [
         (
-            Case {
-                table: b"name,dept,sal\n",
-                ..FIRST
-            },
-            0,
-            b"name\n",
-            b"",
-        ),
-        (
-            Case {
-                words: &["alone", "cat"],
-                ..FIRST
-            },
-            1,
-            b"",
-            b"xprs: usage\n",
-        ),
-        (
-            Case {
-                catalog: b"other",
-                ..FIRST
-            },
-            2,
-            b"",
-            b"xprs: cat: missing\n",
-        ),
-        (
-            Case {
+            Devices {
                 shelf_fails: &[1],
-                ..FIRST
+                ..SOUND
             },
-            3,
-            b"",
-            b"xprs: shelf failed\n",
+            "3 xprs: shelf failed|",
         ),
         (
-            Case {
-                shelf_fails: &[4],
-                ..FIRST
+            Devices {
+                shelf_fails: &[8],
+                ..SOUND
             },
-            0,
-            b"name\nAnn\nCid\n",
-            b"",
+            "0 name|Ann|Cid|",
         ),
+        (Devices { most: 1, ..SOUND }, "0 name|Ann|Cid|"),
         (
-            Case {
+            Devices {
                 most: 11,
                 out_fails: &[2],
-                ..FIRST
+                ..SOUND
             },
-            6,
-            b"name\nAnn\nCi",
-            b"xprs: output failed\n",
-        ),
-        (
-            Case {
-                script: b"retrieve (EMP.name) \\g\n",
-                ..FIRST
-            },
-            9,
-            b"",
-            b"xprs: q: not built yet\n",
+            "6 name|Ann|Cixprs: output failed|",
         ),
     ];
-    for (case, status, out, err) in &cases {
-        let left = left_by(alloc, case)?;
-        assert_eq!(rt; left.status, *status);
-        assert_eq!(rt; left.drives, 0);
-        assert_eq!(rt; left.out.bytes(), *out);
-        assert_eq!(rt; left.err.bytes(), *err);
+    for (devices, wanted) in devices {
+        let left = answer(alloc, &["alone", "cat", "q"], files(alloc, &[])?, devices)?;
+        assert_eq!(rt; left.as_slice(), lines(alloc, wanted)?.as_slice());
+    }
+    Ok(())
+}
+
+// A table of five texts in one row, the first and the last of these lengths.
+fn wide(alloc: Global, first: usize, last: usize) -> Result<Vec<u8>, AllocError> {
+    let mut bytes = lines(alloc, "a,b,c,d,e|")?;
+    for (len, end) in [
+        (first, b','),
+        (2000, b','),
+        (2000, b','),
+        (2000, b','),
+        (last, b'\n'),
+    ] {
+        for _ in 0..len {
+            bytes.push(b'x')?;
+        }
+        bytes.push(end)?;
+    }
+    Ok(bytes)
+}
+
+#[test]
+fn a_row_may_fill_a_page_and_no_more(rt: HostRuntime) -> Result<(), Fail> {
+    let alloc = rt.alloc();
+    let cases: [(usize, usize, &str); 3] = [
+        (2000, 158, "0 x|1|"),
+        (2000, 159, "2 xprs: w: record 2 column 0: RowTooLong|"),
+        (2001, 1, "2 xprs: w: record 2 column 1: TextTooLong|"),
+    ];
+    for (first, last, wanted) in cases {
+        let catalog = "relation W from \"w\" (a = text, b = text, c = text, d = text, e = text)";
+        let mut files = files(alloc, &[("cat", catalog), ("q", "retrieve (x = 1) \\g")])?;
+        let table = NamedFile {
+            name: Vec::from_slice(alloc, b"w")?,
+            bytes: wide(alloc, first, last)?,
+        };
+        files.push(table)?;
+        let left = answer(alloc, &["alone", "cat", "q"], files, SOUND)?;
+        assert_eq!(rt; left.as_slice(), lines(alloc, wanted)?.as_slice());
     }
     Ok(())
 }

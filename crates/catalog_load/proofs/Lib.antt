@@ -1,0 +1,12 @@
+pub mod RecordRuns
+pub mod Cells
+pub mod Pops
+pub mod Typed
+pub mod Tokens
+pub mod Leading
+pub mod Sound
+pub mod Complete
+pub mod Answering
+pub mod Lexing
+pub mod Limits
+pub mod OneCatalog

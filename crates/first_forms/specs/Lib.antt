@@ -1,4 +1,0 @@
-pub mod Pieces
-pub mod Catalogs
-pub mod Queries
-pub mod Tables

@@ -1,0 +1,19 @@
+use Rattle.std.proofs.Common.{◌∙◌, le_trans}
+use Rattle.xprs_top.proofs.Told.{stopped_at, more_told_at, tables_at}
+use Rattle.xprs_top.proofs.input.read_tables.Goals as goal
+
+pub returns-in-Err-clause-told : goal.returns-in-Err-clause-told
+returns-in-Err-clause-told g c =
+    rw (← c.items-relation-items.ensures)
+    (stopped_at (g.S.Shelf.files c.args.shelf.now) (g.S.Shelf.files c.loop-relation.shelf) c.loop-relation.invariant.files (g.S.Shelf.faults c.args.shelf.now) (g.S.Shelf.faults c.loop-relation.shelf) (g.S.Shelf.faults c.table.new.shelf)
+    c.loop-relation.invariant.count c.items-relation-items.result.now c.loop-relation.relation-index c.relation-item.result c.loop-relation-test.true c.relation-item.is c.loop-relation.tables.items c.loop-relation.invariant.told c.in-Err.status c.in-Err.ensures.told)
+
+pub loop-relation-preserved : goal.loop-relation-preserved
+loop-relation-preserved g c = record {
+  files = c.table.ensures.files ∙ c.loop-relation.invariant.files;
+  count = le_trans c.loop-relation.invariant.count c.table.ensures.count;
+  told = more_told_at (g.S.Shelf.files c.args.shelf.now) (g.S.Shelf.files c.loop-relation.shelf) c.loop-relation.invariant.files c.items-relation-items.result.now c.loop-relation.relation-index c.relation-item.result
+      c.loop-relation-test.true c.relation-item.is c.loop-relation.tables.items c.push.new.self.items c.in-Ok.table c.loop-relation.invariant.told c.in-Ok.ensures.told c.in-Ok.ensures.columns c.in_ok-push-in-Ok.ensures.items;
+  tables = tables_at c.items-relation-items.result.now c.loop-relation.relation-index c.relation-item.result c.loop-relation-test.true c.relation-item.is c.loop-relation.tables.items c.push.new.self.items c.in-Ok.table
+      c.loop-relation.invariant.tables c.in-Ok.ensures.columns c.in-Ok.ensures.rows c.in_ok-push-in-Ok.ensures.items;
+}

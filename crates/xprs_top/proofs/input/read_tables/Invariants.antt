@@ -1,0 +1,14 @@
+use Rattle.std.proofs.Common.{◌≡◌, ◌≤◌, take, Ok}
+use Rattle.name_check.specs.Resolved.{AreTables}
+use Rattle.xprs_top.specs.Inputs.{OnFiles}
+use Rattle.xprs_top.specs.Readings.{tables_of}
+use Rattle.xprs_top.proofs.input.read_tables.Given as goal
+
+-- the tables so far are those of the relations so far
+abbrev pub invariant-loop-relation : goal.invariant-loop-relation
+invariant-loop-relation g l = record {
+  files : g.S.Shelf.files l.shelf ≡ g.S.Shelf.files l.fn.shelf;
+  count : g.S.Shelf.faults l.fn.shelf ≤ g.S.Shelf.faults l.shelf;
+  told : OnFiles (g.S.Shelf.files l.fn.shelf) (λ files. tables_of files (take l.relation-index l.relation-items) ≡ Ok l.tables.items);
+  tables : AreTables (take l.relation-index l.relation-items) l.tables.items;
+}

@@ -1,0 +1,129 @@
+-- What files are read as: a value or a fault.
+use Rattle.std.specs.Prelude.{◌≡◌, ◌⊎◌, ℕ, Bool, ◌||◌, List, [], ◌∷◌, map, length, nat_le, if◌then◌else◌, Option, Some, None, Result, Ok, Err}
+use Rattle.std.specs.List.{list_any}
+use Rattle.rows.specs.declared.plain.Relation.{Relation}
+use Rattle.rows.specs.declared.plain.Step.{Step}
+use Rattle.rows.specs.declared.value.Value.{Value}
+use Rattle.rel_meaning.specs.declared.query.Table.{Table}
+use Rattle.rel_meaning.specs.Expression.{Question}
+use Rattle.postquel_tokens.specs.declared.fault.Spot.{Spot}
+use Rattle.postquel_tokens.specs.declared.fault.What.{What}
+use Rattle.postquel_tokens.specs.declared.fault.TextErr.{TextErr}
+use Rattle.postquel_tokens.specs.declared.fault.TextErr.TheVariants as text_err
+use Rattle.postquel_tokens.specs.declared.token.Token.{Token}
+use Rattle.postquel_tokens.specs.Lex.{lex_of}
+use Rattle.postquel.specs.Program.{Program}
+use Rattle.postquel.specs.Print.{script_text}
+use Rattle.postquel.specs.Reading as script
+use Rattle.catalog_load.specs.Readings as catalog
+use Rattle.catalog_load.specs.Tables.{rows_of}
+use Rattle.catalog_load.specs.declared.fault.LoadErr.{LoadErr}
+use Rattle.catalog_load.specs.declared.fault.LoadErr.TheVariants as load_err
+use Rattle.name_check.specs.Machine.{machine_steps}
+use Rattle.name_check.specs.Sentences.{has_fold, heading_of, is_kept, queries_of}
+use Rattle.xp_outside.specs.Outside.{file_at}
+use Rattle.xprs_top.specs.declared.status.Status.{Status}
+use Rattle.xprs_top.specs.declared.status.Status.TheVariants.{Refused, NotBuilt, NoMemory}
+use Rattle.xprs_top.specs.declared.status.Refused.TheVariants.{Missing, TooLong, Script, Table as TableFault}
+use Rattle.xprs_top.specs.declared.words.Verb.{Verb}
+use Rattle.xprs_top.specs.declared.words.Verb.TheVariants.{Alone, Check}
+use Rattle.xprs_top.specs.Words.{Request}
+use Rattle.xprs_top.specs.Answers.{answers_bytes}
+
+abbrev pub Files : Type 0
+Files = List (List ℕ × List ℕ)
+
+-- what is read is just this
+abbrev pub Just : {A : Type 0} → Result A Status → Result A Status → Type 0
+Just found outcome = found ≡ outcome
+
+-- one reading, and behind it another of what the first one gave; the first fault counts
+abbrev pub Then : {A B : Type 0} → (Result A Status → Type 0) → (A → Result B Status → Type 0) → Result B Status → Type 0
+Then {A} first next (Ok y) = (x : A) × first (Ok x) × next x (Ok y)
+Then {A} first next (Err e) = first (Err e) ⊎ ((x : A) × first (Ok x) × next x (Err e))
+
+-- the fault of a text, and the file that has it
+abbrev pub text_fault : List ℕ → What × Spot → Status
+text_fault name f = Refused (Script name f.1.line f.1.col f.0)
+
+-- a reading of the text of a file
+abbrev pub InFile : {A : Type 0} → List ℕ → (Result A (What × Spot) → Type 0) → Result A Status → Type 0
+InFile name read (Ok x) = read (Ok x)
+InFile name read (Err e) = (f : What × Spot) × read (Err f) × (e ≡ text_fault name f)
+
+-- what a check gives, and the file that has its fault
+abbrev pub checked_in : {A : Type 0} → List ℕ → Result A TextErr → Result A Status
+checked_in name (Ok x) = Ok x
+checked_in name (Err (text_err.Fault line col what)) = Err (text_fault name (what, record { line = line; col = col }))
+checked_in name (Err text_err.NoMemory) = Err NoMemory
+
+abbrev pub bytes_or_fault : List ℕ → Option (List ℕ) → Result (List ℕ) Status
+bytes_or_fault name None = Err (Refused (Missing name))
+bytes_or_fault name (Some bytes) = if nat_le (length bytes) 67108864 then Ok bytes else Err (Refused (TooLong name))
+
+-- the bytes of a file that is there and isn't too long
+abbrev pub fetch_of : Files → List ℕ → Result (List ℕ) Status
+fetch_of files name = bytes_or_fault name (file_at files name)
+
+-- the script that a text is, or its first fault: of its tokens first, and then of their grammar
+abbrev pub IsProgram : List ℕ → Result Program (What × Spot) → Type 0
+IsProgram text (Ok program) = (tokens : List Token) × (lex_of text ≡ Ok tokens) × script.IsReading tokens (Ok program)
+IsProgram text (Err f) = (lex_of text ≡ Err f) ⊎ ((tokens : List Token) × (lex_of text ≡ Ok tokens) × script.IsReading tokens (Err f))
+
+-- a catalogue and a script that passed all checks: the script, the steps of its machine line, and its questions
+pub record Checked : Type 0 where
+  pub catalog : List Relation
+  pub program : Program
+  pub steps : List Step
+  pub questions : List Question
+
+-- the machine line is checked, and then the statements
+abbrev pub check_of : List Relation → List ℕ → Program → Result Checked Status → Type 0
+check_of catalog name program =
+    Then (Just (checked_in name (machine_steps program.steps))) (λ steps.
+    Then (Just (checked_in name (queries_of (map heading_of catalog) program.sentences))) (λ questions.
+    Just (Ok (record { catalog = catalog; program = program; steps = steps; questions = questions }))))
+
+abbrev pub IsCatalog : Files → List ℕ → Result (List Relation) Status → Type 0
+IsCatalog files name = Then (Just (fetch_of files name)) (λ bytes. InFile name (catalog.IsReading bytes))
+
+abbrev pub IsScript : Files → List Relation → List ℕ → Result Checked Status → Type 0
+IsScript files relations name = Then (Just (fetch_of files name)) (λ bytes. Then (InFile name (IsProgram bytes)) (check_of relations name))
+
+-- the catalogue first, and then the script
+abbrev pub IsChecked : Files → Request → Result Checked Status → Type 0
+IsChecked files request = Then (IsCatalog files request.catalog) (λ relations. IsScript files relations request.script)
+
+abbrev pub bind : {A B : Type 0} → Result A Status → (A → Result B Status) → Result B Status
+bind (Ok x) f = f x
+bind (Err e) f = Err e
+
+-- the rows of a table, or the table that has a fault
+abbrev pub loaded_in : {A : Type 0} → List ℕ → Result A LoadErr → Result A Status
+loaded_in name (Ok x) = Ok x
+loaded_in name (Err (load_err.Fault number column what)) = Err (Refused (TableFault name number column what))
+loaded_in name (Err load_err.NoMemory) = Err NoMemory
+
+abbrev pub table_of : Files → Relation → Result (List (List Value)) Status
+table_of files relation = bind (fetch_of files relation.file) (λ bytes. loaded_in relation.file (rows_of relation.columns bytes))
+
+-- the tables in catalogue order
+abbrev pub tables_of : Files → List Relation → Result (List Table) Status
+tables_of files [] = Ok []
+tables_of files (relation ∷ relations) =
+    bind (table_of files relation) (λ rows. bind (tables_of files relations) (λ tables. Ok (record { columns = relation.columns; rows = rows } ∷ tables)))
+
+-- whether a statement has a fold or keeps its answer
+abbrev pub is_unbuilt : Program → Bool
+is_unbuilt program = list_any has_fold program.sentences || list_any is_kept program.sentences
+
+abbrev pub answered : Checked → List Table → Result (List ℕ) Status
+answered checked db = if is_unbuilt checked.program then Err NotBuilt else Ok (answers_bytes db checked.questions)
+
+abbrev pub text_by : Files → Verb → Checked → Result (List ℕ) Status
+text_by files Check checked = Ok (script_text checked.program)
+text_by files Alone checked = bind (tables_of files checked.catalog) (answered checked)
+
+-- the text that is asked for: of `check` the script as it prints, of `alone` the answers, for which all tables are read
+abbrev pub IsText : Files → Request → Result (List ℕ) Status → Type 0
+IsText files request = Then (IsChecked files request) (λ checked. Just (text_by files request.verb checked))
