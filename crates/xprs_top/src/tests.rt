@@ -4,8 +4,8 @@ use std::alloc::{AllocError, Global};
 use std::test::Fail;
 use xp_outside::{FileList, MemRack, MemShelf, MemSink, NamedFile, NumberList};
 
-// The files: a name, and the bytes with `|` for a line feed.
-const FILES: [(&str, &str); 7] = [
+// The files: a name, and the bytes with `|` for a line feed and `^` for a carriage return.
+const FILES: [(&str, &str); 8] = [
     (
         "cat",
         "relation EMP from \"emp.csv\" (name = text, dept = text, sal = int4)|relation DEPT from \"dept.csv\" (dname = text, floor = int4)|relation E from \"e.csv\" (a = int4)|relation ITEM from \"item.csv\" (id = int4, title = text, price = int4, sold = bool) index id|relation P from \"p.csv\" (n = text, a = int4 null, b = int4 null)|",
@@ -22,6 +22,7 @@ const FILES: [(&str, &str); 7] = [
         "id,title,price,sold|10,\"Lamp, small\",2500,t|11,Chair,4000,false|12,Desk,12000,f|7,\"12\"\" ruler\",150,true|",
     ),
     ("p.csv", "n,a,b|x,1,2|y,,2|z,3,|"),
+    ("nulls.csv", "n,a,b|x,1,2|y,,2|z,3,|,,|"),
 ];
 
 // Each line is a verb, a script, and the number of the status and the bytes written, with `|` for a line feed.
@@ -60,8 +61,9 @@ emp.csv name,dept,sal|Ann,toy,-2147483648| @ retrieve (EMP.sal) \\g -> 0 sal|-21
 emp.csv name,dept,sal| @ retrieve (EMP.name) \\g -> 0 name|
 emp.csv name,dept,sal|Ann,toy,1200|Bob,toy,900|Cid,shoe,1500|Abe,toy,900| @ retrieve (EMP.name, EMP.sal) sort by sal using > \\g -> 0 name,sal|Cid,1500|Ann,1200|Abe,900|Bob,900|
 emp.csv name,dept,sal|Ann| @ retrieve (n = count(EMP.name)) \\g -> 2 xprs: emp.csv: record 2 column 0: FieldCount|
+item.csv id,title,price,sold^|10,\"Lamp, small\",2500,t^|11,Chair,4000,false^|12,Desk,12000,f^|7,\"12\"\" ruler\",150,true^| @ retrieve (ITEM.title, gross = ITEM.price * 119) where ITEM.id >= 8 and not ITEM.sold sort by gross using > \\g retrieve (i.all) from i in ITEM where i.sold \\g -> 0 title,gross|Desk,1428000|Chair,476000||id,title,price,sold|7,\"12\"\" ruler\",150,t|10,\"Lamp, small\",2500,t|
 cat relation A from \"a\" (x = int4, x = bool) @ retrieve (x = ) \\g -> 2 xprs: cat:1:32: DoubleColumn|
-cat relation P from \"p.csv\" (n = text null, a = int4 null, b = int4 null) @ retrieve unique (P.b) where P.n is null or P.b is null \\g -> 0 b|\"\"|
+cat relation P from \"nulls.csv\" (n = text null, a = int4 null, b = int4 null) @ retrieve unique (P.b) where P.n is null or P.b is null \\g -> 0 b|\"\"|
 cat relation Z from \"z.csv\" (n = text) @ retrieve (x = 1) \\g -> 2 xprs: z.csv: missing|";
 
 // The calls of the shelf and of the output that fail, and how many bytes the output takes at once.
@@ -78,11 +80,15 @@ const SOUND: Devices<'static> = Devices {
     most: 4096,
 };
 
-// The bytes of a text with a line feed for each `|`.
+// The bytes of a text with a line feed for each `|` and a carriage return for each `^`.
 fn lines(alloc: Global, text: &str) -> Result<Vec<u8>, AllocError> {
     let mut bytes = Vec::new(alloc);
     for byte in text.bytes() {
-        bytes.push(if byte == b'|' { b'\n' } else { byte })?;
+        bytes.push(match byte {
+            b'|' => b'\n',
+            b'^' => b'\r',
+            other => other,
+        })?;
     }
     Ok(bytes)
 }
