@@ -3,16 +3,16 @@
 #![tactic(auto)]
 
 mod folder;
+mod scratch;
 mod terminal;
 #[cfg(test)]
 mod tests;
 
 use folder::FolderShelf;
-use lists::Sequence;
+use scratch::FileRack;
 use std::env::{self, Env};
 use std::process::ExitCode;
 use terminal::StdSink;
-use xp_outside::MemRack;
 use xprs_top::answer_alone;
 
 // The arguments without the program's name, and none where they can't be had.
@@ -34,12 +34,7 @@ fn main(rt: HostRuntime) -> ExitCode {
     let alloc = rt.alloc();
     let words = words(&rt);
     let mut shelf = FolderShelf::new(&rt);
-    let mut rack = MemRack::new(
-        0,
-        Sequence::new(alloc),
-        Sequence::new(alloc),
-        Sequence::new(alloc),
-    );
+    let mut rack = FileRack::new(&rt);
     let mut out = StdSink::new(rt.stdout());
     let mut err = StdSink::new(rt.stderr());
     let outcome = answer_alone(
