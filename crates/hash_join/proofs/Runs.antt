@@ -1,5 +1,5 @@
 -- In a list in the order of its keys, those that equal a key stand side by side.
-use Rattle.std.proofs.Common.{◌≡◌, ℕ, zero, suc, ◌+◌, ◌-◌, ◌<◌, ◌≤◌, Bool, true, false, cond, List, [], ◌∷◌, ltb, refl, sym, ap, ◌∙◌, subst, arith, length, filter, take, drop, get_or}
+use Rattle.std.proofs.Common.{◌≡◌, ℕ, zero, suc, ◌+◌, ◌≤◌, Bool, true, false, cond, List, [], ◌∷◌, ltb, refl, sym, ap, ◌∙◌, subst, arith, length, filter, take, drop, get_or}
 use Rattle.std.specs.List.{AllWithin}
 use Rattle.std.specs.List.Sorted.{IsNonDecreasingBy, IsPartitionedBy, IsPartitionPoint}
 use Rattle.std.specs.declared.cmp.Ordering.{Ordering}
@@ -62,19 +62,19 @@ module _ {X : Type 0} (order : X → Ordering) where
 
   -- the run of equal ones begins behind those below, and ends before those above
   equal_run : (xs : List X) (start count : ℕ) → start ≤ length xs → count ≤ length (drop start xs)
-    → IsPartitionPoint (λ x. is_lt (order x) ≡ true) (λ x. is_lt (order x) ≡ false) xs start
-    → IsPartitionPoint (λ x. is_le (order x) ≡ true) (λ x. is_le (order x) ≡ false) (drop start xs) count
-    → length (drop start xs) + start ≡ length xs
-    → take count (drop start xs) ≡ filter (λ x. is_eq (order x)) xs
+      → IsPartitionPoint (λ x. is_lt (order x) ≡ true) (λ x. is_lt (order x) ≡ false) xs start
+      → IsPartitionPoint (λ x. is_le (order x) ≡ true) (λ x. is_le (order x) ≡ false) (drop start xs) count
+      → length (drop start xs) + start ≡ length xs
+      → take count (drop start xs) ≡ filter (λ x. is_eq (order x)) xs
   equal_run xs start count h k low high size =
-    let not_below : AllWithin (λ x. is_lt (order x) ≡ false) (drop start xs) 0 count = λ i d zero' within. subst (λ x. is_lt (order x) ≡ false) (sym (get_or-drop start xs i d)) (low.1 (start + i) d (omega arith) (omega (arith, within, k, size))) in
-    sym (filter_behind (λ x. is_eq (order x)) xs start h (λ i d a b. not_equal_below (order (get_or xs i d)) (low.0 i d a b))
-    ∙ filter_front (λ x. is_eq (order x)) (drop start xs) count (λ i d a b. equal_between (order (get_or (drop start xs) i d)) (not_below i d a b) (high.0 i d a b)) (λ i d a b. not_equal_above (order (get_or (drop start xs) i d)) (high.1 i d a b)) k)
+      let not_below : AllWithin (λ x. is_lt (order x) ≡ false) (drop start xs) 0 count = λ i d zero' within. subst (λ x. is_lt (order x) ≡ false) (sym (get_or-drop start xs i d)) (low.1 (start + i) d (omega arith) (omega (arith, within, k, size))) in
+      sym (filter_behind (λ x. is_eq (order x)) xs start h (λ i d a b. not_equal_below (order (get_or xs i d)) (low.0 i d a b))
+      ∙ filter_front (λ x. is_eq (order x)) (drop start xs) count (λ i d a b. equal_between (order (get_or (drop start xs) i d)) (not_below i d a b) (high.0 i d a b)) (λ i d a b. not_equal_above (order (get_or (drop start xs) i d)) (high.1 i d a b)) k)
 
   -- the same, where what is left behind those below is a slice
   pub equal_slice : (xs rest : List X) (start count : ℕ) → rest ≡ drop start xs → start ≤ length xs → count ≤ length rest
-    → IsPartitionPoint (λ x. is_lt (order x) ≡ true) (λ x. is_lt (order x) ≡ false) xs start
-    → IsPartitionPoint (λ x. is_le (order x) ≡ true) (λ x. is_le (order x) ≡ false) rest count
-    → take count rest ≡ filter (λ x. is_eq (order x)) xs
+      → IsPartitionPoint (λ x. is_lt (order x) ≡ true) (λ x. is_lt (order x) ≡ false) xs start
+      → IsPartitionPoint (λ x. is_le (order x) ≡ true) (λ x. is_le (order x) ≡ false) rest count
+      → take count rest ≡ filter (λ x. is_eq (order x)) xs
   equal_slice xs rest start count e h k low high =
-    ap (take count) e ∙ equal_run xs start count h (subst (λ ys. count ≤ length ys) e k) low (subst (λ ys. IsPartitionPoint (λ x. is_le (order x) ≡ true) (λ x. is_le (order x) ≡ false) ys count) e high) (omega (arith, length-drop start xs, h))
+      ap (take count) e ∙ equal_run xs start count h (subst (λ ys. count ≤ length ys) e k) low (subst (λ ys. IsPartitionPoint (λ x. is_le (order x) ≡ true) (λ x. is_le (order x) ≡ false) ys count) e high) (omega (arith, length-drop start xs, h))

@@ -1,6 +1,6 @@
 -- A stable sort keeps the order of those with one key.
-use Rattle.std.proofs.Common.{◌≡◌, ℕ, ◌<◌, Bool, true, false, not, ◌&&◌, cond, List, [], ◌∷◌, refl, sym, ap, ◌∙◌, subst, arith, length, filter}
-use Rattle.std.specs.List.{All, count_by}
+use Rattle.std.proofs.Common.{◌≡◌, Bool, true, not, ◌&&◌, cond, List, [], ◌∷◌, refl, sym, ap, ◌∙◌, subst, arith, length, filter}
+use Rattle.std.specs.List.{All}
 use Rattle.std.specs.List.Sorted.{IsPermutation, IsStableBy, ties}
 use Rattle.std.specs.Cmp.{IsTotalOrder}
 use Rattle.std.specs.declared.cmp.Ordering.{Ordering}
@@ -31,9 +31,9 @@ module _ {X K : Type 0} {cmp : K → K → Ordering} (total : IsTotalOrder cmp) 
 
   equals_tie : (k : K) (x y : X) → key x ≡ k → is_eq (cmp (key y) k) ≡ ties below x y
   equals_tie k x y e =
-    ap (λ m. is_eq (cmp (key y) m)) (sym e)
-    ∙ tied (cmp (key y) (key x))
-    ∙ ap (λ o. not (is_lt o) && not (is_lt (cmp (key y) (key x)))) (sym (total.antisymm (key x) (key y)))
+      ap (λ m. is_eq (cmp (key y) m)) (sym e)
+      ∙ tied (cmp (key y) (key x))
+      ∙ ap (λ o. not (is_lt o) && not (is_lt (cmp (key y) (key x)))) (sym (total.antisymm (key x) (key y)))
 
   abbrev has_it : K → X → Bool
   has_it k x = is_eq (cmp (key x) k)

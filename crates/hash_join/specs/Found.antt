@@ -1,5 +1,5 @@
 -- What is kept of a table, so that a key is found.
-use Rattle.std.specs.Prelude.{◌≡◌, ℕ, Bool, List, filter}
+use Rattle.std.specs.Prelude.{◌≡◌, Bool, List, filter}
 use Rattle.std.specs.List.Sorted.{IsSortedBy}
 use Rattle.std.specs.Ordering.{is_lt}
 use Rattle.std.specs.Cmp.Lexicographic.{slice_cmp}

@@ -1,5 +1,5 @@
 -- Rows by position, their keys, and the places of the rows with a key.
-use Rattle.std.specs.Prelude.{ℕ, ◌<◌, Bool, not, ◌&&◌, List, [], ◌∷◌, map, filter, length, slice_index_or}
+use Rattle.std.specs.Prelude.{◌≡◌, ℕ, ◌<◌, IsSome, Bool, not, ◌&&◌, List, [], map, filter, length, slice_index_or}
 use Rattle.std.specs.List.{flat_map, list_any, range_with_len}
 use Rattle.std.specs.Option.{option_to_list}
 use Rattle.std.specs.Ordering.{is_eq}
@@ -9,7 +9,7 @@ use Rattle.rows.specs.declared.plain.ColumnRef.{ColumnRef}
 use Rattle.rows.specs.declared.plain.LayoutPart.{LayoutPart}
 use Rattle.rows.specs.Values.{column_of, value_cmp}
 use Rattle.rel_meaning.specs.Eval.{is_null}
-use Rattle.rel_meaning.specs.Layouts.{column_place}
+use Rattle.rel_meaning.specs.Layouts.{column_place, column_in}
 use Rattle.hash_join.specs.declared.table.RowPlace.{RowPlace}
 
 -- a list of rows for each position, and the columns of the key by their places in a row
@@ -39,6 +39,18 @@ key_of columns row = map (column_of row) columns
 
 abbrev pub place_at : ℕ → ℕ → RowPlace
 place_at position place = record { position = position; place = place }
+
+-- a column of the layout
+abbrev pub IsColumn : List LayoutPart → ColumnRef → Type 0
+IsColumn layout key = IsSome (column_place layout key.var key.col)
+
+-- a row's values in columns of the layout
+abbrev pub row_key : List LayoutPart → List ColumnRef → List Value → List Value
+row_key layout keys row = map (λ key. column_in layout row key.var key.col) keys
+
+-- the keys of rows by their places are those by the layout
+abbrev pub HasKeys : List LayoutPart → List ColumnRef → Table → Type 0
+HasKeys layout keys table = (row : List Value) → key_of table.columns row ≡ row_key layout keys row
 
 -- the places of the rows of one position, in order
 abbrev pub places_in : ℕ → List (List Value) → List RowPlace

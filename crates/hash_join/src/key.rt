@@ -109,7 +109,11 @@ pub(crate) fn key_order(row: &[Value], columns: &[usize], key: &[Value]) -> Orde
     ensures { result ≡ slice_cmp value_cmp (key_of columns.now row.now) key.now }
 {
     let Some((column, columns)) = columns.split_first() else {
-        return if key.is_empty() { Ordering::Equal } else { Ordering::Less };
+        return if key.is_empty() {
+            Ordering::Equal
+        } else {
+            Ordering::Less
+        };
     };
     let Some((value, key)) = key.split_first() else {
         return Ordering::Greater;

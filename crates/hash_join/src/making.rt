@@ -1,7 +1,8 @@
 //! Making a table of rows.
 ghost use Rattle.std.specs.Prelude.{◌≡◌, [], ◌∷◌, ◌++◌, map, IfOk, OnOk};
+ghost use Rattle.std.specs.List.{All};
 ghost use Rattle.rows.specs.Values.{arranged};
-ghost use Rattle.hash_join.specs.Table.{Table, places_of, rows_of};
+ghost use Rattle.hash_join.specs.Table.{HasKeys, IsColumn, Table, places_of, rows_of};
 
 use crate::index::index_of;
 use crate::key::key_places;
@@ -23,9 +24,8 @@ fn indexed(alloc: Global, parts: Parts, columns: Vec<usize>) -> Result<Built, Al
     })
 }
 
-/// The rows by position, to be found by the values in key columns. A row is one of the layout: its key has the values at the
-/// places of these columns in the layout. An error is want of memory.
-pub fn build(
+// The rows by position, with the columns of their key.
+fn keyed(
     alloc: Global,
     parts: Parts,
     layout: &Layout,
@@ -35,6 +35,21 @@ pub fn build(
 {
     let columns = key_places(alloc, layout.items(), keys.items())?;
     indexed(alloc, parts, columns)
+}
+
+/// The rows by position, to be found by their values in key columns of the layout, whose rows they are. Where each key is a
+/// column of the layout, a row's key has its values in these columns; one that is no column is passed over. An error is
+/// want of memory.
+pub fn build(
+    alloc: Global,
+    parts: Parts,
+    layout: &Layout,
+    keys: &ColumnRefList,
+) -> Result<Built, AllocError>
+    ensures table { IfOk result (λ built. built ≡ record { lists = parts; columns = places_of layout.now keys.now }) }
+    ensures keys { All (IsColumn layout.now) keys.now → IfOk result (HasKeys layout.now keys.now) }
+{
+    keyed(alloc, parts, layout, keys)
 }
 
 // Adds copies of rows.

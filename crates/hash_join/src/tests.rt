@@ -93,14 +93,24 @@ fn rows_match_by_their_keys(rt: HostRuntime) -> Result<(), Fail> {
     let first = ColumnRef { var: 0, col: 0 };
     let second = ColumnRef { var: 4, col: 0 };
     let keys = Sequence::from_vec(vec![in alloc; first]?);
-    let built = build(alloc, parts(alloc, texts.as_slice())?, &layout(alloc)?, &keys)?;
+    let built = build(
+        alloc,
+        parts(alloc, texts.as_slice())?,
+        &layout(alloc)?,
+        &keys,
+    )?;
     let one = found(alloc, &built, &row(alloc, "1")?)?;
     assert_eq!(rt; one.as_slice(), [1, 7, 1, 4, 1, 3, 1, 1].as_slice());
     for none in ["3", "-", "1,7"] {
         assert!(rt; found(alloc, &built, &row(alloc, none)?)?.is_empty());
     }
     let keys = Sequence::from_vec(vec![in alloc; second, first]?);
-    let built = build(alloc, parts(alloc, texts.as_slice())?, &layout(alloc)?, &keys)?;
+    let built = build(
+        alloc,
+        parts(alloc, texts.as_slice())?,
+        &layout(alloc)?,
+        &keys,
+    )?;
     let pair = found(alloc, &built, &row(alloc, "3,1")?)?;
     assert_eq!(rt; pair.as_slice(), [1, 3].as_slice());
     Ok(())
@@ -110,13 +120,21 @@ fn rows_match_by_their_keys(rt: HostRuntime) -> Result<(), Fail> {
 fn rows_are_arranged_over_all_positions(rt: HostRuntime) -> Result<(), Fail> {
     let alloc = rt.alloc();
     let texts = ["1,2;3,1", "1,2;-,9;2,1"];
-    let keys = Sequence::from_vec(vec![in alloc; SortKey { column: 1, down: false }]?);
+    let keys = Sequence::from_vec(vec![in alloc;
+        SortKey {
+            column: 1,
+            down: false
+        },
+    ]?);
     let built = arrange(alloc, parts(alloc, texts.as_slice())?, false, &keys)?;
     let wanted = [2, 1, 3, 1, 1, 2, 1, 2, 0, 9];
     assert_eq!(rt; all(alloc, &built)?.as_slice(), wanted.as_slice());
     let every = found(alloc, &built, &Sequence::new(alloc))?;
     assert_eq!(rt; every.as_slice(), wanted.as_slice());
     let built = arrange(alloc, parts(alloc, texts.as_slice())?, true, &keys)?;
-    assert_eq!(rt; all(alloc, &built)?.as_slice(), [2, 1, 3, 1, 1, 2, 0, 9].as_slice());
+    assert_eq!(rt;
+        all(alloc, &built)?.as_slice(),
+        [2, 1, 3, 1, 1, 2, 0, 9].as_slice()
+    );
     Ok(())
 }

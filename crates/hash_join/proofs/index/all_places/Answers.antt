@@ -1,4 +1,4 @@
-use Rattle.std.proofs.Common.{rules, ◌≡◌, ◌∙◌, ap, sym, map, length, get_or, []}
+use Rattle.std.proofs.Common.{rules, ◌≡◌, map, length, get_or, []}
 use Rattle.hash_join.proofs.Places.{position_more, at_map}
 use Rattle.hash_join.proofs.index.all_places.Goals as goal
 

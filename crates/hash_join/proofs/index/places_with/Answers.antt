@@ -1,4 +1,4 @@
-use Rattle.std.proofs.Common.{rules, ◌≡◌, sym, subst, map, List, []}
+use Rattle.std.proofs.Common.{rules, sym, subst, map, List, []}
 use Rattle.std.specs.declared.cmp.Ordering.{Ordering}
 use Rattle.std.specs.Ordering.{is_lt, is_le, ordering_index}
 use Rattle.std.specs.List.Sorted.{IsNonDecreasingBy}
@@ -24,5 +24,5 @@ returns c =
     let up = searchable_from_sorted (row_total []) key index c.args.key.now c.requires in
     let up_rest = subst (IsNonDecreasingBy (λ at. ordering_index (order at))) (sym e) (IsNonDecreasingBy-drop (λ at. ordering_index (order at)) start index up) in
     equal_slice order index _ start c.partition_point-count.result e c.partition_point-start.ensures.bound c.partition_point-count.ensures.bound
-      (IsPartitionPoint-from_clause (λ at. is_lt (order at)) index start c.partition_point-start.ensures.partitioned (below_parted order index up) (λ a r f' h. search rules))
-      (IsPartitionPoint-from_clause (λ at. is_le (order at)) _ c.partition_point-count.result c.partition_point-count.ensures.partitioned (upto_parted order _ up_rest) (λ a r f' h. search rules))
+    (IsPartitionPoint-from_clause (λ at. is_lt (order at)) index start c.partition_point-start.ensures.partitioned (below_parted order index up) (λ a r f' h. search rules))
+    (IsPartitionPoint-from_clause (λ at. is_le (order at)) _ c.partition_point-count.result c.partition_point-count.ensures.partitioned (upto_parted order _ up_rest) (λ a r f' h. search rules))

@@ -1,4 +1,4 @@
-use Rattle.std.proofs.Common.{◌≡◌, ◌∙◌, sym}
+use Rattle.std.proofs.Common.{◌∙◌, sym}
 use Rattle.hash_join.proofs.Places.{no_match}
 use Rattle.hash_join.proofs.table.Built.found.Goals as goal
 

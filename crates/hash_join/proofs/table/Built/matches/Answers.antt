@@ -1,4 +1,4 @@
-use Rattle.std.proofs.Common.{rules, ◌≡◌, subst, sym}
+use Rattle.std.proofs.Common.{subst, sym}
 use Rattle.std.specs.List.{All}
 use Rattle.hash_join.specs.Table.{IsPlace}
 use Rattle.hash_join.proofs.Places.{matches_are_places}
