@@ -28,10 +28,11 @@ fn rows(alloc: Global, text: &str) -> Result<Rows, AllocError> {
     Ok(Sequence::from_vec(rows))
 }
 
-fn parts(alloc: Global, texts: &[&str]) -> Result<Parts, AllocError> {
+// Lists of rows between bars.
+fn parts(alloc: Global, text: &str) -> Result<Parts, AllocError> {
     let mut parts = Parts::new(alloc);
-    for text in texts {
-        let item = Arc::new(alloc, rows(alloc, text)?)?;
+    for list in text.split('|') {
+        let item = Arc::new(alloc, rows(alloc, list)?)?;
         if parts.push(item).is_err() {
             return Err(AllocError);
         }
@@ -39,20 +40,36 @@ fn parts(alloc: Global, texts: &[&str]) -> Result<Parts, AllocError> {
     Ok(parts)
 }
 
-// Two variables, each with one column.
+// A variable with one column.
+fn part(alloc: Global, var: u32) -> Result<LayoutPart, AllocError> {
+    let column = LayoutColumn {
+        col_type: ColType::Int4,
+        bound: 9,
+    };
+    Ok(LayoutPart {
+        var,
+        columns: Sequence::from_vec(vec![in alloc; column]?),
+    })
+}
+
 fn layout(alloc: Global) -> Result<Layout, AllocError> {
     let mut parts = Vec::new(alloc);
-    for var in [0, 4] {
-        let column = LayoutColumn {
-            col_type: ColType::Int4,
-            bound: 9,
-        };
-        parts.push(LayoutPart {
-            var,
-            columns: Sequence::from_vec(vec![in alloc; column]?),
-        })?;
-    }
+    parts.push(part(alloc, 0)?)?;
+    parts.push(part(alloc, 4)?)?;
     Ok(Sequence::from_vec(parts))
+}
+
+// A table whose key is the columns of these variables.
+fn keyed(alloc: Global, vars: &[u32]) -> Result<Built, AllocError> {
+    let mut keys = Sequence::new(alloc);
+    for var in vars {
+        if keys.push(ColumnRef { var: *var, col: 0 }).is_err() {
+            return Err(AllocError);
+        }
+    }
+    let layout = layout(alloc)?;
+    let parts = parts(alloc, "1,7;-,6;2,5;1,4|1,3;2,-;-,2;1,1")?;
+    build(alloc, parts, &layout, &keys)
 }
 
 // The values of a row, where null is 0.
@@ -75,6 +92,12 @@ fn found(alloc: Global, built: &Built, key: &Row) -> Result<Vec<i64>, AllocError
     Ok(out)
 }
 
+fn matched(alloc: Global, vars: &[u32], key: &str) -> Result<Vec<i64>, AllocError> {
+    let key = row(alloc, key)?;
+    let built = keyed(alloc, vars)?;
+    found(alloc, &built, &key)
+}
+
 // The rows of an arranged value, one after the other.
 fn all(alloc: Global, built: &Built) -> Result<Vec<i64>, AllocError>
     requires { length built.now.lists ≡ 1 }
@@ -86,55 +109,47 @@ fn all(alloc: Global, built: &Built) -> Result<Vec<i64>, AllocError>
     Ok(out)
 }
 
+// Rows by their second column, as the empty key finds them and as they stand.
+fn ordered(alloc: Global, unique: bool) -> Result<[Vec<i64>; 2], AllocError> {
+    let mut keys = Sequence::new(alloc);
+    let by_second = SortKey {
+        column: 1,
+        down: false,
+    };
+    if keys.push(by_second).is_err() {
+        return Err(AllocError);
+    }
+    let parts = parts(alloc, "1,2;3,1|1,2;-,9;2,1")?;
+    let built = arrange(alloc, parts, unique, &keys)?;
+    let every = found(alloc, &built, &Sequence::new(alloc))?;
+    Ok([every, all(alloc, &built)?])
+}
+
 #[test]
 fn rows_match_by_their_keys(rt: HostRuntime) -> Result<(), Fail> {
-    let alloc = rt.alloc();
-    let texts = ["1,7;-,6;2,5;1,4", "1,3;2,-;-,2;1,1"];
-    let first = ColumnRef { var: 0, col: 0 };
-    let second = ColumnRef { var: 4, col: 0 };
-    let keys = Sequence::from_vec(vec![in alloc; first]?);
-    let built = build(
-        alloc,
-        parts(alloc, texts.as_slice())?,
-        &layout(alloc)?,
-        &keys,
-    )?;
-    let one = found(alloc, &built, &row(alloc, "1")?)?;
-    assert_eq!(rt; one.as_slice(), [1, 7, 1, 4, 1, 3, 1, 1].as_slice());
-    for none in ["3", "-", "1,7"] {
-        assert!(rt; found(alloc, &built, &row(alloc, none)?)?.is_empty());
+    let table: [(&[u32], &str, &[i64]); 5] = [
+        (&[0], "1", &[1, 7, 1, 4, 1, 3, 1, 1]),
+        (&[0], "3", &[]),
+        (&[0], "-", &[]),
+        (&[0], "1,7", &[]),
+        (&[4, 0], "3,1", &[1, 3]),
+    ];
+    for (vars, key, wanted) in table {
+        assert_eq!(rt; matched(rt.alloc(), vars, key)?.as_slice(), wanted);
     }
-    let keys = Sequence::from_vec(vec![in alloc; second, first]?);
-    let built = build(
-        alloc,
-        parts(alloc, texts.as_slice())?,
-        &layout(alloc)?,
-        &keys,
-    )?;
-    let pair = found(alloc, &built, &row(alloc, "3,1")?)?;
-    assert_eq!(rt; pair.as_slice(), [1, 3].as_slice());
     Ok(())
 }
 
 #[test]
 fn rows_are_arranged_over_all_positions(rt: HostRuntime) -> Result<(), Fail> {
-    let alloc = rt.alloc();
-    let texts = ["1,2;3,1", "1,2;-,9;2,1"];
-    let keys = Sequence::from_vec(vec![in alloc;
-        SortKey {
-            column: 1,
-            down: false
-        },
-    ]?);
-    let built = arrange(alloc, parts(alloc, texts.as_slice())?, false, &keys)?;
-    let wanted = [2, 1, 3, 1, 1, 2, 1, 2, 0, 9];
-    assert_eq!(rt; all(alloc, &built)?.as_slice(), wanted.as_slice());
-    let every = found(alloc, &built, &Sequence::new(alloc))?;
-    assert_eq!(rt; every.as_slice(), wanted.as_slice());
-    let built = arrange(alloc, parts(alloc, texts.as_slice())?, true, &keys)?;
-    assert_eq!(rt;
-        all(alloc, &built)?.as_slice(),
-        [2, 1, 3, 1, 1, 2, 0, 9].as_slice()
-    );
+    let table: [(bool, &[i64]); 2] = [
+        (false, &[2, 1, 3, 1, 1, 2, 1, 2, 0, 9]),
+        (true, &[2, 1, 3, 1, 1, 2, 0, 9]),
+    ];
+    for (unique, wanted) in table {
+        let [every, all] = ordered(rt.alloc(), unique)?;
+        assert_eq!(rt; every.as_slice(), wanted);
+        assert_eq!(rt; all.as_slice(), wanted);
+    }
     Ok(())
 }
