@@ -1,0 +1,14 @@
+//! Tables of rows that are looked up by their keys, for joins, and answers in their order.
+#![tactic(auto)]
+
+mod index;
+mod key;
+mod making;
+mod parts;
+mod table;
+#[cfg(test)]
+mod tests;
+
+pub use making::{arrange, build};
+pub use parts::Parts;
+pub use table::{Built, BuiltList, Inputs, RowPlace};

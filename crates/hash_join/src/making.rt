@@ -1,0 +1,100 @@
+//! Making a table of rows.
+ghost use Rattle.std.specs.Prelude.{◌≡◌, [], ◌∷◌, ◌++◌, map, IfOk, OnOk};
+ghost use Rattle.std.specs.List.{All};
+ghost use Rattle.rows.specs.Values.{arranged};
+ghost use Rattle.hash_join.specs.Table.{HasKeys, IsColumn, Table, places_of, rows_of};
+
+use crate::index::index_of;
+use crate::key::key_places;
+use crate::{Built, Parts};
+use lists::Duplicate;
+use rows::{ColumnRefList, Layout, Row, Rows, SortKeyList, arrange_rows};
+use std::alloc::{AllocError, Global};
+use std::sync::Arc;
+
+// A table with its places in the order of their keys.
+fn indexed(alloc: Global, parts: Parts, columns: Vec<usize>) -> Result<Built, AllocError>
+    ensures { IfOk result (λ built. built ≡ record { lists = parts; columns = columns.items }) }
+{
+    let index = index_of(alloc, parts.items(), columns.as_slice())?;
+    Ok(Built {
+        parts,
+        columns,
+        index,
+    })
+}
+
+// The rows by position, with the columns of their key.
+fn keyed(
+    alloc: Global,
+    parts: Parts,
+    layout: &Layout,
+    keys: &ColumnRefList,
+) -> Result<Built, AllocError>
+    ensures { IfOk result (λ built. built ≡ record { lists = parts; columns = places_of layout.now keys.now }) }
+{
+    let columns = key_places(alloc, layout.items(), keys.items())?;
+    indexed(alloc, parts, columns)
+}
+
+/// The rows by position, to be found by their values in key columns of the layout, whose rows they are. Where each key is a
+/// column of the layout, a row's key has its values in these columns; one that is no column is passed over. An error is
+/// want of memory.
+pub fn build(
+    alloc: Global,
+    parts: Parts,
+    layout: &Layout,
+    keys: &ColumnRefList,
+) -> Result<Built, AllocError>
+    ensures table { IfOk result (λ built. built ≡ record { lists = parts; columns = places_of layout.now keys.now }) }
+    ensures keys { All (IsColumn layout.now) keys.now → IfOk result (HasKeys layout.now keys.now) }
+{
+    keyed(alloc, parts, layout, keys)
+}
+
+// Adds copies of rows.
+fn put_rows(out: &mut Vec<Row>, alloc: Global, rows: &[Row]) -> Result<(), AllocError>
+    ensures { OnOk result (out.new.items ≡ out.old.items ++ rows.now) }
+{
+    for row in rows {
+        out.push(row.duplicate(alloc)?)?;
+    }
+    Ok(())
+}
+
+// Copies of all rows, by position.
+fn joined(alloc: Global, parts: &[Arc<Rows>]) -> Result<Vec<Row>, AllocError>
+    ensures { IfOk result (λ rows. rows.items ≡ rows_of (map (λ x. x.value) parts.now)) }
+{
+    let mut out = Vec::new(alloc);
+    for rows in parts {
+        put_rows(&mut out, alloc, rows.items())?;
+    }
+    Ok(out)
+}
+
+// One list of rows, at position 0.
+fn one_list(alloc: Global, rows: Vec<Row>) -> Result<Parts, AllocError>
+    ensures { IfOk result (λ parts. parts ≡ rows.items ∷ []) }
+{
+    let mut parts = Parts::new(alloc);
+    match parts.push(Arc::new(alloc, Rows::from_vec(rows))?) {
+        Ok(()) => Ok(parts),
+        Err(_) => Err(AllocError),
+    }
+}
+
+/// The rows of all positions in the order of an answer, by the sort keys and then by all columns, and one of equal rows
+/// where `unique`. They stand in one list, at position 0. An error is want of memory.
+pub fn arrange(
+    alloc: Global,
+    parts: Parts,
+    unique: bool,
+    keys: &SortKeyList,
+) -> Result<Built, AllocError>
+    ensures { IfOk result (λ built. built ≡ record { lists = arranged unique keys.now (rows_of parts) ∷ []; columns = [] }) }
+{
+    let mut rows = joined(alloc, parts.items())?;
+    arrange_rows(&mut rows, unique, keys.items())?;
+    indexed(alloc, one_list(alloc, rows)?, Vec::new(alloc))
+}
