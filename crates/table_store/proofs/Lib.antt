@@ -1,0 +1,4 @@
+mod Addresses
+mod Cut
+mod Encoded
+mod Pages

@@ -1,0 +1,9 @@
+//! Tables on striped drives: their files, their pages, and their rows read back.
+#![tactic(auto)]
+
+mod files;
+mod page_rows;
+mod reading;
+
+pub use files::{StoredTable, file_map, items_of};
+pub use reading::read_table;
