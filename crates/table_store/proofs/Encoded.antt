@@ -5,7 +5,7 @@ use Rattle.heap_page.specs.Blocks.{joined}
 use Rattle.rows.specs.declared.plain.Column.{Column}
 use Rattle.rows.specs.declared.value.Value.{Value}
 use Rattle.rows.specs.RowBytes.{Encodes, Decodes}
-use Rattle.table_store.specs.Readings.{AreEncoded, HasStranger}
+use Rattle.table_store.specs.Readings.{AreDecoded, HasStranger}
 use Rattle.table_store.specs.Steps.{Added}
 
 pub take_one : {X : Type 0} (xs : List X) (i : ℕ) (x : X) → slice_get xs i ≡ Some x → take (i + 1) xs ≡ take i xs ++ x ∷ []
@@ -14,7 +14,7 @@ take_one (y ∷ xs) zero x e = let h : y ≡ x = cc in rw h refl
 take_one (y ∷ xs) (suc i) x e = let k : suc i + 1 ≡ suc (i + 1) = omega arith in rw k (ap (λ (ys : List _). y ∷ ys) (take_one xs i x e))
 
 pub encoded_append : (columns : List Column) (rows : List (List Value)) (items : List (List ℕ)) (rows2 : List (List Value)) (items2 : List (List ℕ)) →
-    AreEncoded columns rows items → AreEncoded columns rows2 items2 → AreEncoded columns (rows ++ rows2) (items ++ items2)
+    AreDecoded columns rows items → AreDecoded columns rows2 items2 → AreDecoded columns (rows ++ rows2) (items ++ items2)
 encoded_append columns [] [] rows2 items2 h k = k
 encoded_append columns [] (i ∷ is) rows2 items2 h k = elim h [ ]
 encoded_append columns (r ∷ rs) [] rows2 items2 h k = elim h [ ]
@@ -30,7 +30,7 @@ pub added_one : (columns : List Column) (items : List (List ℕ)) (slot : ℕ) (
 added_one columns items slot item row old mid at d h = (
   h.0 ++ row ∷ [],
   ap (λ (ys : List _). ys ++ row ∷ []) h.1 ∙ append_assoc old h.0 (row ∷ []),
-  subst (AreEncoded columns (h.0 ++ row ∷ [])) (sym (take_one items slot item at)) (encoded_append columns h.0 (take slot items) (row ∷ []) (item ∷ []) h.2 (d.sound, tt)),
+  subst (AreDecoded columns (h.0 ++ row ∷ [])) (sym (take_one items slot item at)) (encoded_append columns h.0 (take slot items) (row ∷ []) (item ∷ []) h.2 (d, tt)),
 )
 
 none_some : {X : Type 0} (x : X) → None ≡ Some x → ⊥

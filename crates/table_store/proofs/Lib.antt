@@ -1,4 +1,6 @@
 mod Addresses
 mod Cut
 mod Encoded
+mod Filed
 mod Pages
+mod Stored

@@ -15,7 +15,7 @@ use Rattle.heap_page.specs.Pages.{fault_of, items_of}
 use Rattle.heap_page.specs.Stores.{AreRead, IsFault, HaveRoom}
 use Rattle.rows.specs.declared.plain.Column.{Column}
 use Rattle.rows.specs.declared.value.Value.{Value}
-use Rattle.table_store.specs.Readings.{AreEncoded, ArePageRows, AreFileRows, Breaks, TableCause, TellsBreak}
+use Rattle.table_store.specs.Readings.{AreDecoded, ArePageRows, AreFileRows, Breaks, TableCause, TellsBreak}
 use Rattle.table_store.specs.Steps.{Added, IsBad, IsStep}
 use Rattle.table_store.proofs.Encoded.{encoded_append, joined_append}
 

@@ -9,11 +9,11 @@ use Rattle.heap_page.specs.declared.errors.FetchErr.{FetchErr}
 use Rattle.heap_page.specs.declared.errors.FetchErr.TheVariants as fetch
 use Rattle.rows.specs.declared.plain.Column.{Column}
 use Rattle.rows.specs.declared.value.Value.{Value}
-use Rattle.table_store.specs.Readings.{AreEncoded, Breaks, HasStranger}
+use Rattle.table_store.specs.Readings.{AreDecoded, Breaks, HasStranger}
 
 -- the rows of the items stand behind the others, or some item is no row
 abbrev pub Added : List Column → List (List ℕ) → List (List Value) → List (List Value) → Bool → Type 0
-Added columns items old new true = (more : List (List Value)) × (new ≡ old ++ more) × AreEncoded columns more items
+Added columns items old new true = (more : List (List Value)) × (new ≡ old ++ more) × AreDecoded columns more items
 Added columns items old new false = HasStranger columns items
 
 -- the error names this page and a rule that it breaks, or there was no memory

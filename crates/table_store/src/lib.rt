@@ -4,6 +4,8 @@
 mod files;
 mod page_rows;
 mod reading;
+mod writing;
 
 pub use files::{StoredTable, file_map, items_of};
 pub use reading::read_table;
+pub use writing::write_tables;
