@@ -1,4 +1,5 @@
 mod Addresses
+mod Again
 mod Cut
 mod Encoded
 mod Filed

@@ -94,7 +94,7 @@ module _ {D : Type 0} (g : Ghosts D) where
     starts olds = record {
       pages = [];
       len = refl;
-      rows_are = record { told = λ n p d at at_d. absurd (let h = get_below [] n p at in omega (arith, h)); sound = λ n p at. absurd (let h = get_below [] n p at in omega (arith, h)); encoded = tt };
+      rows_are = record { told = λ n p d at at_d. absurd (let h = get_below [] n p at in omega (arith, h)); sound = λ n p at. absurd (let h = get_below [] n p at in omega (arith, h)); decoded = tt };
       read = read_none olds;
     }
 
@@ -124,7 +124,7 @@ module _ {D : Type 0} (g : Ghosts D) where
               let e : n ≡ number = h.0 ∙ r.len in
               rw (e, ← h.1) s.sound)
         ];
-        encoded = rw (joined_last r.pages s.page, s.added.1) (encoded_append columns rows (joined (map items_of r.pages)) s.added.0 (items_of s.page) r.rows_are.encoded s.added.2);
+        decoded = rw (joined_last r.pages s.page, s.added.1) (encoded_append columns rows (joined (map items_of r.pages)) s.added.0 (items_of s.page) r.rows_are.decoded s.added.2);
       };
       read = read_trans olds bs cs r.read k;
     } where

@@ -1,10 +1,17 @@
 -- The files of tables.
-use Rattle.std.specs.Prelude.{◌≡◌, ℕ, ◌≤◌, ◌+◌, List, [], ◌∷◌, length, take, if◌then◌else◌, All}
+use Rattle.std.specs.Prelude.{◌≡◌, ℕ, ◌≤◌, ◌+◌, List, [], ◌∷◌, length, map, take, if◌then◌else◌, All}
 use Rattle.std.specs.List.{flat_map}
 use Rattle.heap_page.specs.declared.head.FileKind.TheVariants.{Heap, Index}
 use Rattle.heap_page.specs.declared.map.PageFile.{PageFile}
 use Rattle.heap_page.specs.Blocks.{FitsAlone, blocks_of, byte_lists, item_weight}
+use Rattle.rows.specs.declared.plain.Column.{Column}
+use Rattle.rows.specs.declared.value.Value.{Value}
+use Rattle.rows.specs.RowBytes.{row_bytes}
 use Rattle.table_store.specs.declared.files.StoredTable.{StoredTable}
+
+-- the bytes of each row, in order
+abbrev pub encodings : List Column → List (List Value) → List (List ℕ)
+encodings columns rows = map (row_bytes columns) rows
 
 -- at most 1,000,000 items, each of which fits an empty page
 abbrev pub IsStorable : StoredTable → Type 0

@@ -12,7 +12,8 @@ use Rattle.heap_page.specs.Pages.{fault_of, items_of}
 use Rattle.heap_page.specs.Stores.{IsFault, Stand}
 use Rattle.rows.specs.declared.plain.Column.{Column}
 use Rattle.rows.specs.declared.value.Value.{Value}
-use Rattle.rows.specs.RowBytes.{Decodes, Encodes, IsRowOf, row_bytes}
+use Rattle.rows.specs.RowBytes.{Decodes, Encodes, IsRowOf}
+use Rattle.table_store.specs.Files.{encodings}
 
 -- each item is the encoding of its row, and of no other row
 abbrev pub AreDecoded : List Column → List (List Value) → List (List ℕ) → Type 0
@@ -40,7 +41,7 @@ module _ {D : Type 0} (g : Ghosts D) where
     pub told : (number : ℕ) (page : List ℕ) (drive : D) → slice_get pages number ≡ Some page → slice_get drives (drive_of map_of number) ≡ Some drive →
         ReadsPage (g.pages drive) (address_of map_of file number) page
     pub sound : (number : ℕ) (page : List ℕ) → slice_get pages number ≡ Some page → fault_of file number page ≡ None
-    pub encoded : AreDecoded columns rows (joined (map items_of pages))
+    pub decoded : AreDecoded columns rows (joined (map items_of pages))
 
   -- the rows of all pages of the file
   pub record AreFileRows (map_of : FileMap) (file : ℕ) (columns : List Column) (drives : List D) (rows : List (List Value)) : Type 0 where
@@ -65,7 +66,7 @@ module _ {D : Type 0} (g : Ghosts D) where
     pub few : length columns ≤ 32
     pub are_rows : All (IsRowOf columns) rows
     pub blocks : List (List (List ℕ))
-    pub cut : ArePages (map (row_bytes columns) rows) blocks
+    pub cut : ArePages (encodings columns rows) blocks
     pub number : HasPages map_of.files.items file (length blocks)
     pub tell : AllTell drives
     pub stand : Stand g map_of file blocks drives

@@ -1,9 +1,9 @@
 //! The items of a table, and the files of tables.
-ghost use Rattle.std.specs.Prelude.{◌≡◌, ◌<◌, ◌≤◌, ◌++◌, IfOk, OnOk, length, map, All};
+ghost use Rattle.std.specs.Prelude.{◌≡◌, ◌<◌, ◌≤◌, ◌++◌, IfOk, OnOk, length, All};
 ghost use Rattle.heap_page.specs.Blocks.{byte_lists};
 ghost use Rattle.heap_page.specs.Maps.{IsMap};
-ghost use Rattle.rows.specs.RowBytes.{IsRowOf, row_bytes};
-ghost use Rattle.table_store.specs.Files.{IsStorable, files_of, files_of_table, table_blocks};
+ghost use Rattle.rows.specs.RowBytes.{IsRowOf};
+ghost use Rattle.table_store.specs.Files.{IsStorable, encodings, files_of, files_of_table, table_blocks};
 
 use heap_page::{FileKind, FileMap, ItemList, PageFile, pages_of};
 use lists::Sequence;
@@ -22,7 +22,7 @@ pub struct StoredTable {
 pub fn items_of(alloc: Global, rows: &Rows, columns: &ColumnList) -> Result<ItemList, NoMemory>
     requires few { length columns.now ≤ 32 }
     requires rows { All (IsRowOf columns.now) rows.now }
-    ensures { IfOk result (λ items. byte_lists items ≡ map (row_bytes columns.now) rows.now) }
+    ensures { IfOk result (λ items. byte_lists items ≡ encodings columns.now rows.now) }
 {
     let mut items = Vec::with_capacity(alloc, rows.len())?;
     for row in rows.items() {

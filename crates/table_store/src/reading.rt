@@ -1,14 +1,16 @@
 //! Reading the rows of a table.
-ghost use Rattle.std.specs.Prelude.{◌≡◌, ◌<◌, ◌≤◌, ℕ, List, Some, None, IfOk, IfErr, OnOk, length, slice_get};
-ghost use Rattle.xp_outside.specs.Drives.{ReadsPage};
-ghost use Rattle.heap_page.specs.declared.map.PageFile.{PageFile};
-ghost use Rattle.heap_page.specs.Maps.{IsMap, HasPage, HasPages, address_of, drive_of};
+ghost use Rattle.std.specs.Prelude.{◌≡◌, ◌<◌, List, IfOk, IfErr, OnOk, Err, All, length};
+ghost use Rattle.heap_page.specs.declared.errors.BadPage.{BadPage};
+ghost use Rattle.heap_page.specs.declared.errors.FetchErr.TheVariants as fetch;
+ghost use Rattle.heap_page.specs.Maps.{IsMap, HasPage, HasPages};
+ghost use Rattle.rows.specs.declared.value.Value.{Value};
+ghost use Rattle.rows.specs.RowBytes.{IsRowOf};
 ghost use Rattle.heap_page.specs.Stores.{AreRead, HaveRoom};
-ghost use Rattle.table_store.specs.Readings.{AreFileRows, ArePageRows, TableCause};
+ghost use Rattle.table_store.specs.Readings.{AreFileRows, TableCause, TellRows};
 ghost use Rattle.table_store.specs.Steps.{IsStep};
 
 use crate::page_rows::add_page;
-use heap_page::{FetchErr, FileMap, read_relation_page};
+use heap_page::{FetchErr, FileMap, block_laws, read_relation_page};
 use lists::Sequence;
 use rows::{ColumnList, Row, Rows};
 use std::alloc::Global;
@@ -63,7 +65,7 @@ fn read_pages<D: Drive>(
 /// The rows of a table's file, read page by page in order. They are rows of the columns, whatever the drives tell; each
 /// page breaks none of a heap page's rules, its items are the encodings of its rows (rule 9), and it is the page at its
 /// address, where the drive tells. `DriveFault` comes only where that drive's count rises. `BadPage` has the first rule
-/// that a page of the file breaks. Each drive keeps its number of pages and all that it tells.
+/// that a page of the file breaks. Drives that tell the pages of some rows give just these rows, and no `BadPage`. Each drive keeps its number of pages and all that it tells.
 pub fn read_table<D: Drive>(
     alloc: Global,
     drives: &mut [D],
@@ -77,8 +79,12 @@ pub fn read_table<D: Drive>(
     requires room { HaveRoom D.Drive map.now drives.old }
     ensures read { AreRead D.Drive drives.old drives.new }
     ensures rows { IfOk result (AreFileRows D.Drive map.now file columns.now drives.old) }
+    ensures typed { IfOk result (All (IsRowOf columns.now)) }
+    ensures again { (rows : List (List Value)) → TellRows D.Drive map.now file columns.now rows drives.old → IfOk result (λ found. found ≡ rows) }
+    ensures accepted { (rows : List (List Value)) (bad : BadPage) → TellRows D.Drive map.now file columns.now rows drives.old → result ≡ Err (fetch.BadPage bad) → ⊥ }
     ensures err { IfErr result (TableCause D.Drive map.now file columns.now drives.old drives.new) }
 {
+    block_laws();
     let count = map.files[file as usize].pages;
     let rows = read_pages(alloc, drives, map, file, count, columns)?;
     Ok(Sequence::from_vec(rows))

@@ -1,13 +1,13 @@
 //! Writing tables.
-ghost use Rattle.std.specs.Prelude.{◌≡◌, ◌<◌, ◌≤◌, ℕ, List, Some, OnOk, IfErr, length, map, slice_get, All};
+ghost use Rattle.std.specs.Prelude.{◌≡◌, ◌<◌, ◌≤◌, ℕ, List, Some, OnOk, IfErr, length, slice_get, All};
 ghost use Rattle.heap_page.specs.Blocks.{byte_lists};
 ghost use Rattle.heap_page.specs.Maps.{IsMap};
 ghost use Rattle.heap_page.specs.Stores.{AreWritten, HaveRoom, StoreCause};
 ghost use Rattle.rows.specs.declared.plain.Column.{Column};
 ghost use Rattle.rows.specs.declared.value.Value.{Value};
-ghost use Rattle.rows.specs.RowBytes.{IsRowOf, row_bytes};
+ghost use Rattle.rows.specs.RowBytes.{IsRowOf};
 ghost use Rattle.table_store.specs.declared.files.StoredTable.{StoredTable};
-ghost use Rattle.table_store.specs.Files.{IsStorable, file_number, files_of, files_of_table};
+ghost use Rattle.table_store.specs.Files.{IsStorable, encodings, file_number, files_of, files_of_table};
 ghost use Rattle.table_store.specs.Images.{HoldTables, IsTablePlace};
 ghost use Rattle.table_store.specs.Readings.{AllTell, TellRows};
 
@@ -42,6 +42,7 @@ pub fn write_tables<D: Drive>(
     ensures written { AreWritten D.Drive (IsTablePlace map.now tables.now) drives.old drives.new }
     ensures room { OnOk result (HaveRoom D.Drive map.now drives.old) }
     ensures ok { OnOk result (HoldTables D.Drive map.now tables.now drives.new) }
+    ensures rows { (number : ℕ) (table : StoredTable) (columns : List Column) (rows : List (List Value)) → slice_get tables.now number ≡ Some table → byte_lists table.items ≡ encodings columns rows → length columns ≤ 32 → All (IsRowOf columns) rows → AllTell D.Drive drives.old → OnOk result (TellRows D.Drive map.now (file_number tables.now number) columns rows drives.new) }
     ensures err { IfErr result (StoreCause D.Drive map.now drives.old drives.new) }
 {
     place_laws();

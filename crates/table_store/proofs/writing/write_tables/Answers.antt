@@ -3,7 +3,8 @@ use Rattle.std.specs.Prelude.{slice_get}
 use Rattle.std.proofs.lemmas.Result.{err_from_is_err_and}
 use Rattle.heap_page.specs.Blocks.{byte_lists}
 use Rattle.table_store.specs.Files.{IsStorable}
-use Rattle.table_store.proofs.Cut.{are_pages}
+use Rattle.table_store.specs.Images.{IsTablePlace}
+use Rattle.table_store.proofs.Again.{tell_rows}
 use Rattle.table_store.proofs.Filed.{some_at, all_at, pages_there, next_number, number_small}
 use Rattle.table_store.proofs.Stored.{cause_before, wrote_more, stored, hold_at_end, room_at_end}
 use Rattle.table_store.proofs.writing.write_tables.Goals as goal
@@ -39,3 +40,9 @@ loop-table-preserved g c =
 pub returns-clause-ok : goal.returns-clause-ok
 returns-clause-ok g c =
     hold_at_end g.D.Drive c.args.map.now c.args.tables.now c.requires.files c.requires.tables c.requires.map c.place_laws.ensures.file c.args.drives.now c.loop-table.drives c.loop-table.table-index c.loop-table.file c.loop-table-test.false c.loop-table.invariant
+
+pub returns-clause-rows : goal.returns-clause-rows
+returns-clause-rows g c = λ number table columns rows at same few are_rows tell.
+    let hold = hold_at_end g.D.Drive c.args.map.now c.args.tables.now c.requires.files c.requires.tables c.requires.map c.place_laws.ensures.file c.args.drives.now c.loop-table.drives c.loop-table.table-index c.loop-table.file c.loop-table-test.false c.loop-table.invariant in
+    tell_rows g.D.Drive c.args.map.now c.args.tables.now (IsTablePlace c.args.map.now c.args.tables.now) c.args.drives.now c.loop-table.drives number table columns rows c.requires.files c.requires.tables
+    c.loop-table.invariant.wrote hold at same few are_rows tell
