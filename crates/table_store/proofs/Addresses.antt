@@ -1,11 +1,11 @@
 -- The address of a page lies below what its drive needs.
-use Rattle.std.proofs.Common.{◌≡◌, ℕ, zero, suc, ◌+◌, ◌-◌, ◌*◌, ◌/◌, ◌%◌, ◌^◌, ◌<◌, ◌≤◌, true, false, cond, eqb, List, [], ◌∷◌, length, take, Some, sym, ap, ◌∙◌, arith, inl, inr}
+use Rattle.std.proofs.Common.{◌≡◌, ℕ, zero, suc, ◌+◌, ◌-◌, ◌*◌, ◌/◌, ◌%◌, ◌<◌, ◌≤◌, List, [], ◌∷◌, take, Some, sym, ap, ◌∙◌, arith, inl, inr}
 use Rattle.std.specs.Prelude.{slice_get}
 use Rattle.std.proofs.lemmas.Bool.{cases_order, eq-eqb, ne_eqb}
 use Rattle.std.proofs.lemmas.Nat.{div-mul-add, div-add-mod', mod_below, le-div}
 use Rattle.heap_page.specs.declared.map.PageFile.{PageFile}
 use Rattle.heap_page.specs.declared.map.FileMap.{FileMap}
-use Rattle.heap_page.specs.Maps.{share, shares, pages_of_all, base, needs_of, drive_of, address_of, HasPage, IsMap}
+use Rattle.heap_page.specs.Maps.{share, shares, pages_of_all, needs_of, drive_of, address_of, HasPage, IsMap}
 
 quotient : (n K q r : ℕ) → n ≡ q * K + r → r < K → n / K ≡ q
 quotient n K q r e lt = ap (λ (m : ℕ). m / K) e ∙ div-mul-add q K r lt

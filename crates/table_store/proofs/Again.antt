@@ -1,6 +1,6 @@
 -- Rows that are told are read again.
-use Rattle.std.proofs.Common.{◌≡◌, ℕ, zero, suc, ◌+◌, ◌%◌, ◌^◌, ◌<◌, ◌≤◌, List, [], ◌∷◌, ◌++◌, length, map, Option, Some, None, refl, sym, ap, subst, ◌∙◌, arith, inl, inr}
-use Rattle.std.specs.Prelude.{slice_get, is_some, IsTrue, IfErr, IfOk, Result, Ok, Err, ◌⊎◌}
+use Rattle.std.proofs.Common.{◌≡◌, ℕ, zero, suc, ◌^◌, ◌<◌, ◌≤◌, List, [], ◌∷◌, ◌++◌, length, map, Option, Some, None, refl, sym, ap, subst, ◌∙◌, arith, inl, inr}
+use Rattle.std.specs.Prelude.{slice_get, is_some, IsTrue, IfErr, Result, Ok, Err}
 use Rattle.std.specs.List.{All}
 use Rattle.std.proofs.lemmas.Nat.{mod_below}
 use Rattle.xp_outside.specs.Drives.{ReadsPage}
@@ -11,12 +11,12 @@ use Rattle.heap_page.specs.declared.errors.FetchErr.TheVariants as fetch
 use Rattle.heap_page.specs.declared.map.FileMap.{FileMap}
 use Rattle.heap_page.specs.declared.map.PageFile.{PageFile}
 use Rattle.heap_page.specs.Blocks.{ArePages, byte_lists, joined}
-use Rattle.heap_page.specs.Maps.{address_of, drive_of, HasPage, HasPages, IsMap}
+use Rattle.heap_page.specs.Maps.{address_of, drive_of, HasPages, IsMap}
 use Rattle.heap_page.specs.Pages.{fault_of, items_of, page_of}
-use Rattle.heap_page.specs.Stores.{AreWritten, KeepsBut, TellsAt}
+use Rattle.heap_page.specs.Stores.{AreRead, AreWritten, KeepsBut, TellsAt}
 use Rattle.rows.specs.declared.plain.Column.{Column}
 use Rattle.rows.specs.declared.value.Value.{Value}
-use Rattle.rows.specs.RowBytes.{Encodes, Decodes, IsRowOf, row_bytes}
+use Rattle.rows.specs.RowBytes.{IsRowOf, row_bytes}
 use Rattle.table_store.specs.declared.files.StoredTable.{StoredTable}
 use Rattle.table_store.specs.Files.{IsStorable, file_number, files_of, table_blocks}
 use Rattle.table_store.specs.Images.{HoldTables}
@@ -108,9 +108,9 @@ module _ {D : Type 0} (g : Ghosts D) (map_of : FileMap) (file : ℕ) (columns : 
   read_again rows found t r =
       let same_length : length r.pages ≡ length t.blocks = one_number map_of.files.items file (length r.pages) (length t.blocks) r.all t.number in
       let all_same : map items_of r.pages ≡ t.blocks = maps_to items_of r.pages t.blocks same_length (λ n page block at_p at_b.
-          let d = drive_at n in
-          let is : page ≡ page_of file n block = told_same (g.pages d.0) (address_of map_of file n) page (page_of file n block) (t.tell (drive_of map_of n) d.0 d.1) (r.read.told n page d.0 at_p d.1) (t.stand n block d.0 at_b d.1) in
-          ap items_of is ∙ again file n (map (row_bytes columns) rows) block t.blocks small (number_below rows t n (get_below t.blocks n block at_b)) t.cut at_b) in
+      let d = drive_at n in
+      let is : page ≡ page_of file n block = told_same (g.pages d.0) (address_of map_of file n) page (page_of file n block) (t.tell (drive_of map_of n) d.0 d.1) (r.read.told n page d.0 at_p d.1) (t.stand n block d.0 at_b d.1) in
+      ap items_of is ∙ again file n (map (row_bytes columns) rows) block t.blocks small (number_below rows t n (get_below t.blocks n block at_b)) t.cut at_b) in
       same_rows columns found (joined (map items_of r.pages)) rows t.few t.are_rows r.read.decoded (ap (λ (bs : List (List (List ℕ))). joined bs) all_same ∙ t.cut.same)
 
   pub never_bad : (rows : List (List Value)) (news : List D) (bad : BadPage) → TellRows g map_of file columns rows drives → TableCause g map_of file columns drives news (fetch.BadPage bad) → ⊥
@@ -160,3 +160,21 @@ module _ {D : Type 0} (g : Ghosts D) where
         tell = still_tell P olds news w tell;
         stand = hold number table (table_blocks table) at cut;
       }
+
+  pub tell_kept : (map_of : FileMap) (us bs : List D) (other : ℕ) (columns : List Column) (rows : List (List Value)) → AreRead g us bs → TellRows g map_of other columns rows us → TellRows g map_of other columns rows bs
+  tell_kept map_of us bs other columns rows h t = record {
+    few = t.few;
+    are_rows = t.are_rows;
+    blocks = t.blocks;
+    cut = t.cut;
+    number = t.number;
+    tell = λ d b at_b.
+        let a = there us d (omega (arith, get_below bs d b at_b, h.len)) in
+        let same = (h.each d a.0 b a.1 at_b).told in
+        subst (λ (ps : Option (List (List ℕ))). IsTrue (is_some ps)) (sym same) (t.tell d a.0 a.1);
+    stand = λ page items b at_page at_b.
+        let d = drive_of map_of page in
+        let a = there us d (omega (arith, get_below bs d b at_b, h.len)) in
+        let same = (h.each d a.0 b a.1 at_b).told in
+        subst (λ (ps : Option (List (List ℕ))). TellsAt ps (address_of map_of other page) (page_of other page items)) (sym same) (t.stand page items a.0 at_page a.1);
+  }

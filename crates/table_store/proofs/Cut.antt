@@ -1,5 +1,5 @@
 -- The pages and the files of tables.
-use Rattle.std.proofs.Common.{◌≡◌, ℕ, zero, suc, ◌+◌, ◌*◌, ◌^◌, ◌<◌, ◌≤◌, Bool, true, false, cond, List, [], ◌∷◌, ◌++◌, length, refl, sym, ap, ◌∙◌, arith}
+use Rattle.std.proofs.Common.{◌≡◌, ℕ, suc, ◌+◌, ◌*◌, ◌<◌, ◌≤◌, Bool, true, false, cond, List, [], ◌∷◌, ◌++◌, length, ap, arith}
 use Rattle.std.specs.List.{All, AllByRecursion}
 use Rattle.std.specs.Global.{Vec}
 use Rattle.std.proofs.lemmas.List.{length-map}
@@ -9,7 +9,7 @@ use Rattle.heap_page.specs.Blocks.{item_weight, blocks_of, byte_lists, ArePages,
 use Rattle.heap_page.specs.Maps.{pages_of_all, IsMap}
 use Rattle.heap_page.proofs.Cut.{are_blocks, only_blocks, length-laid}
 use Rattle.table_store.specs.declared.files.StoredTable.{StoredTable}
-use Rattle.table_store.specs.Files.{IsStorable, table_blocks, heap_file, index_file, files_of_table, files_of}
+use Rattle.table_store.specs.Files.{IsStorable, table_blocks, index_file, files_of_table, files_of}
 
 light : (items : List (List ℕ)) → All FitsAlone items → AllByRecursion (λ item. item_weight item ≤ 8172) items
 light [] each = tt

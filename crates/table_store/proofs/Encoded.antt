@@ -1,10 +1,10 @@
 -- Rows and the items that encode them.
-use Rattle.std.proofs.Common.{◌≡◌, ℕ, zero, suc, ◌+◌, ◌<◌, List, [], ◌∷◌, ◌++◌, length, take, map, Option, Some, None, true, refl, sym, ap, subst, ◌∙◌, append_assoc, arith}
+use Rattle.std.proofs.Common.{◌≡◌, ℕ, zero, suc, ◌+◌, List, [], ◌∷◌, ◌++◌, take, Some, None, true, refl, sym, ap, subst, ◌∙◌, append_assoc, arith}
 use Rattle.std.specs.Prelude.{slice_get}
 use Rattle.heap_page.specs.Blocks.{joined}
 use Rattle.rows.specs.declared.plain.Column.{Column}
 use Rattle.rows.specs.declared.value.Value.{Value}
-use Rattle.rows.specs.RowBytes.{Encodes, Decodes}
+use Rattle.rows.specs.RowBytes.{Decodes}
 use Rattle.table_store.specs.Readings.{AreDecoded, HasStranger}
 use Rattle.table_store.specs.Steps.{Added}
 

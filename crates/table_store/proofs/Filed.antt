@@ -7,7 +7,7 @@ use Rattle.heap_page.specs.declared.map.PageFile.{PageFile}
 use Rattle.heap_page.specs.Blocks.{ArePages, byte_lists}
 use Rattle.heap_page.specs.Maps.{HasPages}
 use Rattle.table_store.specs.declared.files.StoredTable.{StoredTable}
-use Rattle.table_store.specs.Files.{IsStorable, table_blocks, heap_file, index_file, files_of_table, files_of, file_number}
+use Rattle.table_store.specs.Files.{IsStorable, heap_file, index_file, files_of_table, files_of, file_number}
 use Rattle.table_store.proofs.Cut.{only_pages}
 
 pub some_at : {X : Type 0} (xs : List X) (i : ℕ) (x : X) → i < length xs → x ≡ get_or xs i x → slice_get xs i ≡ Some x

@@ -1,5 +1,5 @@
 -- The pages of a file, read one after the other.
-use Rattle.std.proofs.Common.{◌≡◌, ℕ, zero, suc, ◌+◌, ◌<◌, ◌≤◌, List, [], ◌∷◌, ◌++◌, length, map, Option, Some, None, true, refl, sym, ap, subst, ◌∙◌, append_assoc, arith, inl, inr}
+use Rattle.std.proofs.Common.{◌≡◌, ℕ, zero, suc, ◌+◌, ◌<◌, ◌≤◌, List, [], ◌∷◌, ◌++◌, length, map, Option, Some, None, refl, sym, ap, subst, ◌∙◌, append_assoc, arith, inl, inr}
 use Rattle.std.specs.Prelude.{slice_get, ◌⊎◌, IfErr, MatchResult, Result, Ok, Err}
 use Rattle.std.proofs.lemmas.List.{length-append, append-nil}
 use Rattle.xp_outside.specs.Drives.{ReadsPage}
@@ -11,13 +11,13 @@ use Rattle.heap_page.specs.declared.errors.FetchErr.TheVariants as fetch
 use Rattle.heap_page.specs.declared.map.FileMap.{FileMap}
 use Rattle.heap_page.specs.Blocks.{joined}
 use Rattle.heap_page.specs.Maps.{address_of, drive_of, HasPage, HasPages}
-use Rattle.heap_page.specs.Pages.{fault_of, items_of}
+use Rattle.heap_page.specs.Pages.{items_of}
 use Rattle.heap_page.specs.Stores.{AreRead, IsFault, HaveRoom}
 use Rattle.rows.specs.declared.plain.Column.{Column}
 use Rattle.rows.specs.declared.value.Value.{Value}
-use Rattle.table_store.specs.Readings.{AreDecoded, ArePageRows, AreFileRows, Breaks, TableCause, TellsBreak}
-use Rattle.table_store.specs.Steps.{Added, IsBad, IsStep}
-use Rattle.table_store.proofs.Encoded.{encoded_append, joined_append}
+use Rattle.table_store.specs.Readings.{ArePageRows, AreFileRows, Breaks, TableCause, TellsBreak}
+use Rattle.table_store.specs.Steps.{IsBad, IsStep}
+use Rattle.table_store.proofs.Encoded.{encoded_append}
 
 pub get_below : {X : Type 0} (xs : List X) (i : ℕ) (x : X) → slice_get xs i ≡ Some x → i < length xs
 get_below [] i x e = absurd cc
@@ -77,10 +77,14 @@ module _ {D : Type 0} (g : Ghosts D) where
   module _ (map_of : FileMap) (file : ℕ) (columns : List Column) where
     pub cause_earlier : (us bs cs : List D) (e : FetchErr) → AreRead g us bs → TableCause g map_of file columns bs cs e → TableCause g map_of file columns us cs e
     cause_earlier us bs cs (fetch.DriveFault d) h cause = fault_earlier us bs cs d h cause
-    cause_earlier us bs cs (fetch.BadPage bad) h cause = (cause.0, cause.1, λ a at_a.
-        let b = there bs (drive_of map_of bad.page) (omega (arith, get_below us (drive_of map_of bad.page) a at_a, h.len)) in
-        let same = (h.each (drive_of map_of bad.page) a b.0 at_a b.1).told in
-        subst (λ (ps : Option (List (List ℕ))). TellsBreak ps (address_of map_of file bad.page) columns file bad) same (cause.2 b.0 b.1))
+    cause_earlier us bs cs (fetch.BadPage bad) h cause = (
+      cause.0,
+      cause.1,
+      λ a at_a.
+          let b = there bs (drive_of map_of bad.page) (omega (arith, get_below us (drive_of map_of bad.page) a at_a, h.len)) in
+          let same = (h.each (drive_of map_of bad.page) a b.0 at_a b.1).told in
+          subst (λ (ps : Option (List (List ℕ))). TellsBreak ps (address_of map_of file bad.page) columns file bad) same (cause.2 b.0 b.1),
+    )
     cause_earlier us bs cs fetch.NoMemory h cause = tt
 
     -- the first pages were read

@@ -1,5 +1,5 @@
 -- Tables that are written one after the other.
-use Rattle.std.proofs.Common.{◌≡◌, ℕ, zero, suc, ◌+◌, ◌<◌, ◌≤◌, List, [], ◌∷◌, length, Option, Some, None, refl, sym, ap, subst, ◌∙◌, arith, inl, inr}
+use Rattle.std.proofs.Common.{◌≡◌, ℕ, ◌+◌, ◌<◌, ◌≤◌, List, [], ◌∷◌, length, Option, Some, None, refl, sym, ap, subst, ◌∙◌, arith, inl, inr}
 use Rattle.std.specs.Prelude.{slice_get, ◌⊎◌}
 use Rattle.std.specs.List.{All}
 use Rattle.std.proofs.lemmas.Bool.{cases_lt}
@@ -9,7 +9,7 @@ use Rattle.heap_page.specs.declared.errors.StoreErr.{StoreErr}
 use Rattle.heap_page.specs.declared.errors.StoreErr.TheVariants.{DriveFault, DriveFull, NoMemory}
 use Rattle.heap_page.specs.declared.map.FileMap.{FileMap}
 use Rattle.heap_page.specs.Blocks.{ArePages, byte_lists}
-use Rattle.heap_page.specs.Maps.{address_of, drive_of, needs_of, shares, HasPage, HasPages, IsMap, IsPlace}
+use Rattle.heap_page.specs.Maps.{address_of, drive_of, shares, HasPage, IsMap, IsPlace}
 use Rattle.heap_page.specs.Pages.{page_of}
 use Rattle.heap_page.specs.Stores.{AreWritten, IsWritten, IsFault, IsFull, HaveRoom, KeepsBut, Stand, StoreCause, TellsAt}
 use Rattle.table_store.specs.declared.files.StoredTable.{StoredTable}
@@ -58,6 +58,11 @@ module _ {D : Type 0} (g : Ghosts D) where
       let b = there bs d (omega (arith, get_below us d a at_a, h.len)) in
       omega (arith, (h.each d a b.0 at_a b.1).size, room d b.0 b.1)
 
+  pub room_after : (map_of : FileMap) (P : ℕ → ℕ → Type 0) (us bs : List D) → AreWritten g P us bs → HaveRoom g map_of us → HaveRoom g map_of bs
+  room_after map_of P us bs h room = λ d b at_b.
+      let a = there us d (omega (arith, get_below bs d b at_b, h.len)) in
+      omega (arith, (h.each d a.0 b a.1 at_b).size, room d a.0 a.1)
+
   rose_earlier : (a b c : ℕ) → a ≤ b → Rose b c → Rose a c
   rose_earlier a b c le h = omega (arith, le, h)
 
@@ -95,12 +100,8 @@ module _ {D : Type 0} (g : Ghosts D) where
     cause_before olds bs cs done file (DriveFault d) s cause = (room_before map_of (IsTablePlace map_of tables) olds bs s.wrote cause.0, fault_before (IsTablePlace map_of tables) olds bs cs d s.wrote cause.1)
     cause_before olds bs cs done file (DriveFull d needs capacity) s cause = elim s.begun [
       | inl b ↦ subst (λ (us : List D). IsFull g map_of d needs capacity us × (cs ≡ us)) b.1 cause
-      | inr room ↦ absurd (full_not map_of d needs capacity bs (room_after olds bs s.wrote room) cause.0)
-    ] where
-      room_after : (us ds : List D) → AreWritten g (IsTablePlace map_of tables) us ds → HaveRoom g map_of us → HaveRoom g map_of ds
-      room_after us ds h room = λ d b at_b.
-          let a = there us d (omega (arith, get_below ds d b at_b, h.len)) in
-          omega (arith, (h.each d a.0 b a.1 at_b).size, room d a.0 a.1)
+      | inr room ↦ absurd (full_not map_of d needs capacity bs (room_after map_of (IsTablePlace map_of tables) olds bs s.wrote room) cause.0)
+    ]
     cause_before olds bs cs done file NoMemory s cause = room_before map_of (IsTablePlace map_of tables) olds bs s.wrote cause
 
     pub wrote_more : (olds bs cs : List D) (done file : ℕ) → done < length tables → Storing map_of tables olds done file bs → AreWritten g (IsPlace map_of file) bs cs → AreWritten g (IsTablePlace map_of tables) olds cs

@@ -1,5 +1,5 @@
 -- The files of tables.
-use Rattle.std.specs.Prelude.{◌≡◌, ℕ, ◌≤◌, ◌+◌, List, [], ◌∷◌, length, map, take, if◌then◌else◌, All}
+use Rattle.std.specs.Prelude.{ℕ, ◌≤◌, List, [], ◌∷◌, length, map, take, if◌then◌else◌, All}
 use Rattle.std.specs.List.{flat_map}
 use Rattle.heap_page.specs.declared.head.FileKind.TheVariants.{Heap, Index}
 use Rattle.heap_page.specs.declared.map.PageFile.{PageFile}

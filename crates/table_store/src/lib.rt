@@ -4,6 +4,8 @@
 mod files;
 mod page_rows;
 mod reading;
+#[cfg(test)]
+mod tests;
 mod writing;
 
 pub use files::{StoredTable, file_map, items_of};

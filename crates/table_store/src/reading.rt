@@ -1,8 +1,9 @@
 //! Reading the rows of a table.
-ghost use Rattle.std.specs.Prelude.{◌≡◌, ◌<◌, List, IfOk, IfErr, OnOk, Err, All, length};
+ghost use Rattle.std.specs.Prelude.{◌≡◌, ◌<◌, ℕ, List, IfOk, IfErr, OnOk, Err, All, length};
 ghost use Rattle.heap_page.specs.declared.errors.BadPage.{BadPage};
 ghost use Rattle.heap_page.specs.declared.errors.FetchErr.TheVariants as fetch;
 ghost use Rattle.heap_page.specs.Maps.{IsMap, HasPage, HasPages};
+ghost use Rattle.rows.specs.declared.plain.Column.{Column};
 ghost use Rattle.rows.specs.declared.value.Value.{Value};
 ghost use Rattle.rows.specs.RowBytes.{IsRowOf};
 ghost use Rattle.heap_page.specs.Stores.{AreRead, HaveRoom};
@@ -78,6 +79,8 @@ pub fn read_table<D: Drive>(
     requires file { file < length map.now.files.items }
     requires room { HaveRoom D.Drive map.now drives.old }
     ensures read { AreRead D.Drive drives.old drives.new }
+    ensures room { HaveRoom D.Drive map.now drives.new }
+    ensures kept { (other : ℕ) (columns : List Column) (rows : List (List Value)) → TellRows D.Drive map.now other columns rows drives.old → TellRows D.Drive map.now other columns rows drives.new }
     ensures rows { IfOk result (AreFileRows D.Drive map.now file columns.now drives.old) }
     ensures typed { IfOk result (All (IsRowOf columns.now)) }
     ensures again { (rows : List (List Value)) → TellRows D.Drive map.now file columns.now rows drives.old → IfOk result (λ found. found ≡ rows) }

@@ -41,6 +41,7 @@ pub fn write_tables<D: Drive>(
     requires drives { length drives.old ≡ map.now.drives }
     ensures written { AreWritten D.Drive (IsTablePlace map.now tables.now) drives.old drives.new }
     ensures room { OnOk result (HaveRoom D.Drive map.now drives.old) }
+    ensures room_left { OnOk result (HaveRoom D.Drive map.now drives.new) }
     ensures ok { OnOk result (HoldTables D.Drive map.now tables.now drives.new) }
     ensures rows { (number : ℕ) (table : StoredTable) (columns : List Column) (rows : List (List Value)) → slice_get tables.now number ≡ Some table → byte_lists table.items ≡ encodings columns rows → length columns ≤ 32 → All (IsRowOf columns) rows → AllTell D.Drive drives.old → OnOk result (TellRows D.Drive map.now (file_number tables.now number) columns rows drives.new) }
     ensures err { IfErr result (StoreCause D.Drive map.now drives.old drives.new) }

@@ -1,6 +1,5 @@
-use Rattle.std.proofs.Common.{◌≡◌, ◌∙◌, List, sym, ap, take, arith}
+use Rattle.std.proofs.Common.{◌∙◌, ap}
 use Rattle.std.proofs.lemmas.List.{take_all}
-use Rattle.heap_page.specs.declared.map.PageFile.{PageFile}
 use Rattle.table_store.specs.Files.{files_of}
 use Rattle.table_store.proofs.Cut.{is_map}
 use Rattle.table_store.proofs.files.file_map.Goals as goal

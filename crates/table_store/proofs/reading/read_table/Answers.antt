@@ -1,9 +1,7 @@
 use Rattle.std.proofs.Common.{◌∙◌}
 use Rattle.std.proofs.lemmas.Result.{err_from_is_err_and}
-use Rattle.heap_page.specs.declared.errors.FetchErr.{FetchErr}
-use Rattle.rows.specs.declared.value.Value.{Value}
-use Rattle.table_store.specs.Readings.{TableCause}
-use Rattle.table_store.proofs.Again.{all_rows, no_bad_result, read_again}
+use Rattle.table_store.proofs.Again.{all_rows, no_bad_result, read_again, tell_kept}
+use Rattle.table_store.proofs.Pages.{room_read}
 use Rattle.table_store.proofs.reading.read_table.Goals as goal
 
 pub returns-in_err-rows-clause-accepted : goal.returns-in_err-rows-clause-accepted
@@ -20,3 +18,15 @@ returns-clause-again g c = λ rows t.
     c.from_vec.ensures
     ∙ read_again g.D.Drive c.args.map.now c.args.file c.args.columns.now c.args.drives.now c.requires.map c.requires.drives c.ranges.file.fits c.block_laws.ensures.accepted c.block_laws.ensures.again
     rows c.in_ok-rows.rows.items t c.in_ok-rows.ensures.ok
+
+pub returns-in_err-rows-clause-room : goal.returns-in_err-rows-clause-room
+returns-in_err-rows-clause-room g c = room_read g.D.Drive c.args.map.now c.args.drives.now c.read_pages.new.drives c.read_pages.ensures.read c.requires.room
+
+pub returns-in_err-rows-clause-kept : goal.returns-in_err-rows-clause-kept
+returns-in_err-rows-clause-kept g c = λ other columns rows t. tell_kept g.D.Drive c.args.map.now c.args.drives.now c.read_pages.new.drives other columns rows c.read_pages.ensures.read t
+
+pub returns-clause-room : goal.returns-clause-room
+returns-clause-room g c = room_read g.D.Drive c.args.map.now c.args.drives.now c.read_pages.new.drives c.read_pages.ensures.read c.requires.room
+
+pub returns-clause-kept : goal.returns-clause-kept
+returns-clause-kept g c = λ other columns rows t. tell_kept g.D.Drive c.args.map.now c.args.drives.now c.read_pages.new.drives other columns rows c.read_pages.ensures.read t
