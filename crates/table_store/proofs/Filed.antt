@@ -2,7 +2,7 @@
 use Rattle.std.proofs.Common.{◌≡◌, ℕ, zero, suc, ◌+◌, ◌*◌, ◌<◌, ◌≤◌, Bool, true, false, cond, List, [], ◌∷◌, ◌++◌, length, take, get_or, Some, refl, sym, ap, ◌∙◌, arith}
 use Rattle.std.specs.Prelude.{slice_get}
 use Rattle.std.specs.List.{All}
-use Rattle.std.proofs.lemmas.List.{length-append}
+use Rattle.std.proofs.lemmas.List.{length-append, take_all}
 use Rattle.heap_page.specs.declared.map.PageFile.{PageFile}
 use Rattle.heap_page.specs.Blocks.{ArePages, byte_lists}
 use Rattle.heap_page.specs.Maps.{HasPages}
@@ -61,3 +61,8 @@ number_small [] zero = omega arith
 number_small [] (suc number) = omega arith
 number_small (t ∷ ts) zero = omega arith
 number_small (t ∷ ts) (suc number) = omega (arith, length-append (files_of_table t) (files_of (take number ts)), two_at_most t, number_small ts number)
+
+pub number_within : (tables : List StoredTable) (number : ℕ) → number < length tables → file_number tables number < length (files_of tables)
+number_within tables number lt =
+    let all : file_number tables (length tables) ≡ length (files_of tables) = ap (λ (ts : List StoredTable). length (files_of ts)) (take_all (length tables) tables (omega arith)) in
+    omega (arith, all, number_grows tables number (length tables) lt (omega arith))

@@ -3,7 +3,7 @@ ghost use Rattle.std.specs.Prelude.{◌≡◌, ◌<◌, ◌≤◌, ◌++◌, IfO
 ghost use Rattle.heap_page.specs.Blocks.{byte_lists};
 ghost use Rattle.heap_page.specs.Maps.{IsMap};
 ghost use Rattle.rows.specs.RowBytes.{IsRowOf};
-ghost use Rattle.table_store.specs.Files.{IsStorable, encodings, files_of, files_of_table, table_blocks};
+ghost use Rattle.table_store.specs.Files.{IsStorable, encodings, file_number, files_of, files_of_table, table_blocks};
 
 use heap_page::{FileKind, FileMap, ItemList, PageFile, pages_of};
 use lists::Sequence;
@@ -73,4 +73,25 @@ pub fn file_map(alloc: Global, tables: &[StoredTable], drives: u32) -> Result<Fi
         add_files(&mut files, table)?;
     }
     Ok(FileMap { files, drives })
+}
+
+// How many files a table has.
+pub(crate) fn file_count(table: &StoredTable) -> u32
+    ensures { result ≡ length (files_of_table table.now) }
+{
+    if table.indexed { 2 } else { 1 }
+}
+
+/// The number of a table's heap file in the files of tables, at most 16. The table is counted from 0.
+pub fn heap_file_number(tables: &[StoredTable], table: u32) -> u32
+    requires few { length tables.now ≤ 16 }
+    requires table { table < length tables.now }
+    ensures number { result ≡ file_number tables.now table }
+    ensures within { result < length (files_of tables.now) }
+{
+    let mut file = 0u32;
+    for earlier in 0..table {
+        file += file_count(&tables[earlier as usize]);
+    }
+    file
 }

@@ -8,6 +8,6 @@ mod reading;
 mod tests;
 mod writing;
 
-pub use files::{StoredTable, file_map, items_of};
+pub use files::{StoredTable, file_map, heap_file_number, items_of};
 pub use reading::read_table;
 pub use writing::write_tables;

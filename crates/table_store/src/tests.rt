@@ -2,7 +2,7 @@ ghost use Rattle.std.specs.Prelude.{◌≡◌, ◌<◌, ◌≤◌, IfOk, All, le
 ghost use Rattle.heap_page.specs.Blocks.{FitsAlone};
 ghost use Rattle.table_store.specs.Files.{IsStorable};
 
-use crate::{StoredTable, file_map, items_of, read_table, write_tables};
+use crate::{StoredTable, file_map, heap_file_number, items_of, read_table, write_tables};
 use heap_page::{BadPage, FetchErr, ItemList, StoreErr};
 use lists::Sequence;
 use rows::{ColType, Column, ColumnList, Text};
@@ -100,12 +100,13 @@ fn two_drives(alloc: Global, pages: u32) -> Result<Vec<MemDrive>, NoMemory>
 fn tables_are_written_and_read_back(rt: HostRuntime) -> Result<(), Fail> {
     let alloc = rt.alloc();
     let tables = tables(alloc)?;
-    // the number of a file, and that of its table
-    for (file, table) in [(0u32, 0usize), (2, 1), (3, 2)] {
+    // the number of a table, and that of its heap file
+    for (table, file) in [(0u32, 0u32), (1, 2), (2, 3)] {
+        assert!(rt; (table as usize) < tables.len());
+        assert_eq!(rt; heap_file_number(&tables, table), file);
         let mut drives = two_drives(alloc, 2)?;
         let read = write_and_read(alloc, &mut drives, 2, &tables, file);
-        assert!(rt; table < tables.len());
-        let items = &tables[table].items;
+        let items = &tables[table as usize].items;
         assert!(rt; matches!(&read, Ok(Ok(found)) if found.items() == items.items()));
     }
     let mut small = two_drives(alloc, 1)?;

@@ -7,21 +7,15 @@ ghost use Rattle.rows.specs.declared.plain.Column.{Column};
 ghost use Rattle.rows.specs.declared.value.Value.{Value};
 ghost use Rattle.rows.specs.RowBytes.{IsRowOf};
 ghost use Rattle.table_store.specs.declared.files.StoredTable.{StoredTable};
-ghost use Rattle.table_store.specs.Files.{IsStorable, encodings, file_number, files_of, files_of_table};
+ghost use Rattle.table_store.specs.Files.{IsStorable, encodings, file_number, files_of};
 ghost use Rattle.table_store.specs.Images.{HoldTables, IsTablePlace};
 ghost use Rattle.table_store.specs.Readings.{AllTell, TellRows};
 
 use crate::StoredTable;
+use crate::files::file_count;
 use heap_page::{FileMap, StoreErr, place_laws, write_relation};
 use std::alloc::Global;
 use xp_outside::Drive;
-
-// How many files a table has.
-fn file_count(table: &StoredTable) -> u32
-    ensures { result ≡ length (files_of_table table.now) }
-{
-    if table.indexed { 2 } else { 1 }
-}
 
 /// Writes the pages of tables, each at the places of its heap file in the map, which is that of these tables. `DriveFull`
 /// comes exactly where some drive is smaller than the files need there, with the first such drive, its need and its number
