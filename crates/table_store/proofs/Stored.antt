@@ -1,0 +1,157 @@
+-- Tables that are written one after the other.
+use Rattle.std.proofs.Common.{◌≡◌, ℕ, ◌+◌, ◌<◌, ◌≤◌, List, [], ◌∷◌, length, Option, Some, None, refl, sym, ap, subst, ◌∙◌, arith, inl, inr}
+use Rattle.std.specs.Prelude.{slice_get, ◌⊎◌}
+use Rattle.std.specs.List.{All}
+use Rattle.std.proofs.lemmas.Bool.{cases_lt}
+use Rattle.xp_outside.specs.Outside.{Rose}
+use Rattle.xp_outside.specs.declared.drive.Drive.{Ghosts}
+use Rattle.heap_page.specs.declared.errors.StoreErr.{StoreErr}
+use Rattle.heap_page.specs.declared.errors.StoreErr.TheVariants.{DriveFault, DriveFull, NoMemory}
+use Rattle.heap_page.specs.declared.map.FileMap.{FileMap}
+use Rattle.heap_page.specs.Blocks.{ArePages, byte_lists}
+use Rattle.heap_page.specs.Maps.{address_of, drive_of, shares, HasPage, IsMap, IsPlace}
+use Rattle.heap_page.specs.Pages.{page_of}
+use Rattle.heap_page.specs.Stores.{AreWritten, IsWritten, IsFault, IsFull, HaveRoom, KeepsBut, Stand, StoreCause, TellsAt}
+use Rattle.table_store.specs.declared.files.StoredTable.{StoredTable}
+use Rattle.table_store.specs.Files.{IsStorable, file_number, files_of, files_of_table}
+use Rattle.table_store.specs.Images.{HoldTables, IsTablePlace}
+use Rattle.table_store.proofs.Filed.{pages_there, number_grows, next_number}
+use Rattle.table_store.proofs.Pages.{get_below, one_at, there}
+
+module _ {D : Type 0} (g : Ghosts D) where
+  keeps_trans : (P Q R : ℕ → Type 0) (a b c : Option (List (List ℕ))) → ((x : ℕ) → P x → R x) → ((x : ℕ) → Q x → R x) → KeepsBut P a b → KeepsBut Q b c → KeepsBut R a c
+  keeps_trans P Q R None None None p q h k = tt
+  keeps_trans P Q R None None (Some f) p q h k = k
+  keeps_trans P Q R None (Some f) c p q h k = elim h [ ]
+  keeps_trans P Q R (Some f) None c p q h k = elim h [ ]
+  keeps_trans P Q R (Some f) (Some f2) None p q h k = k
+  keeps_trans P Q R (Some f) (Some f2) (Some f3) p q h k = (k.0 ∙ h.0, λ x out. k.1 x (λ w. out (q x w)) ∙ h.1 x (λ w. out (p x w)))
+
+  keeps_none : (a : Option (List (List ℕ))) (P : ℕ → Type 0) → KeepsBut P a a
+  keeps_none None P = tt
+  keeps_none (Some f) P = (refl, λ x out. refl)
+
+  wrote_none : (P : ℕ → ℕ → Type 0) (us : List D) → AreWritten g P us us
+  wrote_none P us = record {
+    len = refl;
+    each = λ d a b at_a at_b.
+        let e : a ≡ b = one_at us d a b at_a at_b in
+        subst (λ (x : D). IsWritten g (P d) a x) e (record { size = refl; count = omega arith; others = keeps_none (g.pages a) (P d) });
+  }
+
+  wrote_trans : (P Q R : ℕ → ℕ → Type 0) (us bs cs : List D) → ((d x : ℕ) → P d x → R d x) → ((d x : ℕ) → Q d x → R d x) → AreWritten g P us bs → AreWritten g Q bs cs → AreWritten g R us cs
+  wrote_trans P Q R us bs cs p q h k = record {
+    len = k.len ∙ h.len;
+    each = λ d a c at_a at_c.
+        let b = there bs d (omega (arith, get_below us d a at_a, h.len)) in
+        let one = h.each d a b.0 at_a b.1 in
+        let two = k.each d b.0 c b.1 at_c in
+        record {
+          size = two.size ∙ one.size;
+          count = omega (arith, one.count, two.count);
+          others = keeps_trans (P d) (Q d) (R d) (g.pages a) (g.pages b.0) (g.pages c) (p d) (q d) one.others two.others;
+        };
+  }
+
+  room_before : (map_of : FileMap) (P : ℕ → ℕ → Type 0) (us bs : List D) → AreWritten g P us bs → HaveRoom g map_of bs → HaveRoom g map_of us
+  room_before map_of P us bs h room = λ d a at_a.
+      let b = there bs d (omega (arith, get_below us d a at_a, h.len)) in
+      omega (arith, (h.each d a b.0 at_a b.1).size, room d b.0 b.1)
+
+  pub room_after : (map_of : FileMap) (P : ℕ → ℕ → Type 0) (us bs : List D) → AreWritten g P us bs → HaveRoom g map_of us → HaveRoom g map_of bs
+  room_after map_of P us bs h room = λ d b at_b.
+      let a = there us d (omega (arith, get_below bs d b at_b, h.len)) in
+      omega (arith, (h.each d a.0 b a.1 at_b).size, room d a.0 a.1)
+
+  rose_earlier : (a b c : ℕ) → a ≤ b → Rose b c → Rose a c
+  rose_earlier a b c le h = omega (arith, le, h)
+
+  fault_before : (P : ℕ → ℕ → Type 0) (us bs cs : List D) (d : ℕ) → AreWritten g P us bs → IsFault g d bs cs → IsFault g d us cs
+  fault_before P us bs cs d h f =
+      let a = there us d (omega (arith, get_below bs d f.old f.was, h.len)) in
+      record { old = a.0; new = f.new; was = a.1; is = f.is; rose = rose_earlier _ _ _ (h.each d a.0 f.old a.1 f.was).count f.rose }
+
+  tells_kept : (P : ℕ → Type 0) (old new : Option (List (List ℕ))) (a : ℕ) (bytes : List ℕ) → KeepsBut P old new → (P a → ⊥) → TellsAt old a bytes → TellsAt new a bytes
+  tells_kept P None None a bytes k out h = tt
+  tells_kept P None (Some f) a bytes k out h = elim k [ ]
+  tells_kept P (Some f) None a bytes k out h = tt
+  tells_kept P (Some f) (Some f2) a bytes k out h = λ page at. h page (sym (k.1 a out) ∙ at)
+
+  full_not : (map_of : FileMap) (d needs capacity : ℕ) (bs : List D) → HaveRoom g map_of bs → IsFull g map_of d needs capacity bs → ⊥
+  full_not map_of d needs capacity bs room f = absurd (omega (arith, room d f.drive f.here, f.needs_is, f.capacity_is, f.small))
+
+  -- no table is written yet, or each drive has room
+  abbrev Begun : FileMap → List D → ℕ → List D → Type 0
+  Begun map_of olds done news = ((done ≡ 0) × (news ≡ olds)) ⊎ HaveRoom g map_of olds
+
+  pub record Storing (map_of : FileMap) (tables : List StoredTable) (olds : List D) (done file : ℕ) (news : List D) : Type 0 where
+    pub file_is : file ≡ file_number tables done
+    pub wrote : AreWritten g (IsTablePlace map_of tables) olds news
+    pub stand : (number : ℕ) (table : StoredTable) (blocks : List (List (List ℕ))) → number < done → slice_get tables number ≡ Some table → ArePages (byte_lists table.items) blocks →
+        Stand g map_of (file_number tables number) blocks news
+    pub begun : ((done ≡ 0) × (news ≡ olds)) ⊎ HaveRoom g map_of olds
+
+  pub starts : (map_of : FileMap) (tables : List StoredTable) (olds : List D) → Storing map_of tables olds 0 0 olds
+  starts map_of tables olds = record { file_is = refl; wrote = wrote_none (IsTablePlace map_of tables) olds; stand = λ n t bs lt. absurd (omega arith); begun = inl (refl, refl) }
+
+  module _ (map_of : FileMap) (tables : List StoredTable) (files : map_of.files.items ≡ files_of tables) (each : All IsStorable tables) (m : IsMap map_of)
+      (apart : (map_of : FileMap) (file page other number : ℕ) → IsMap map_of → HasPage map_of.files.items file page → HasPage map_of.files.items other number → drive_of map_of page ≡ drive_of map_of number → address_of map_of file page ≡ address_of map_of other number → file ≡ other) where
+    pub cause_before : (olds bs cs : List D) (done file : ℕ) (e : StoreErr) → Storing map_of tables olds done file bs → StoreCause g map_of bs cs e → StoreCause g map_of olds cs e
+    cause_before olds bs cs done file (DriveFault d) s cause = (room_before map_of (IsTablePlace map_of tables) olds bs s.wrote cause.0, fault_before (IsTablePlace map_of tables) olds bs cs d s.wrote cause.1)
+    cause_before olds bs cs done file (DriveFull d needs capacity) s cause = elim s.begun [
+      | inl b ↦ subst (λ (us : List D). IsFull g map_of d needs capacity us × (cs ≡ us)) b.1 cause
+      | inr room ↦ absurd (full_not map_of d needs capacity bs (room_after map_of (IsTablePlace map_of tables) olds bs s.wrote room) cause.0)
+    ]
+    cause_before olds bs cs done file NoMemory s cause = room_before map_of (IsTablePlace map_of tables) olds bs s.wrote cause
+
+    pub wrote_more : (olds bs cs : List D) (done file : ℕ) → done < length tables → Storing map_of tables olds done file bs → AreWritten g (IsPlace map_of file) bs cs → AreWritten g (IsTablePlace map_of tables) olds cs
+    wrote_more olds bs cs done file lt s w =
+        wrote_trans (IsTablePlace map_of tables) (IsPlace map_of file) (IsTablePlace map_of tables) olds bs cs (λ d x k. k)
+        (λ d x k. (done, lt, subst (λ (f : ℕ). IsPlace map_of f d x) s.file_is k)) s.wrote w
+
+    -- the pages of an earlier table stay
+    stays : (bs cs : List D) (number file : ℕ) (table : StoredTable) (blocks : List (List (List ℕ))) → file_number tables number < file → slice_get tables number ≡ Some table → ArePages (byte_lists table.items) blocks →
+        AreWritten g (IsPlace map_of file) bs cs → Stand g map_of (file_number tables number) blocks bs → Stand g map_of (file_number tables number) blocks cs
+    stays bs cs number file table blocks lt at cut w stand = λ page items c at_page at_c.
+        let d = drive_of map_of page in
+        let b = there bs d (omega (arith, get_below cs d c at_c, w.len)) in
+        let has = pages_there tables map_of.files.items number (file_number tables number) table blocks files refl each at cut in
+        let mine : HasPage map_of.files.items (file_number tables number) page = (has.0, has.1, omega (arith, has.2, get_below blocks page items at_page)) in
+        tells_kept (IsPlace map_of file d) (g.pages b.0) (g.pages c) (address_of map_of (file_number tables number) page) (page_of (file_number tables number) page items) (w.each d b.0 c b.1 at_c).others
+        (λ other. let same = apart map_of (file_number tables number) page file other.0 m mine other.1 (sym other.2) (sym other.3) in absurd (omega (arith, lt, same)))
+        (stand page items b.0 at_page b.1)
+
+    pub stored : (olds bs cs : List D) (done file count : ℕ) (table : StoredTable) → Storing map_of tables olds done file bs → slice_get tables done ≡ Some table → count ≡ length (files_of_table table) →
+        AreWritten g (IsPlace map_of file) bs cs → HaveRoom g map_of bs → ((blocks : List (List (List ℕ))) → ArePages (byte_lists table.items) blocks → Stand g map_of file blocks cs) →
+        Storing map_of tables olds (done + 1) (file + count) cs
+    stored olds bs cs done file count table s at n w room now =
+        let lt : done < length tables = get_below tables done table at in
+        record {
+          file_is = omega (arith, s.file_is, n, next_number tables done table at);
+          wrote = wrote_more olds bs cs done file lt s w;
+          stand = λ number t blocks less at_t cut. elim (cases_lt number done) [
+            | inl before ↦ stays bs cs number file t blocks (omega (arith, number_grows tables number done before (omega arith), s.file_is)) at_t cut w (s.stand number t blocks before at_t cut)
+            | inr ge ↦ (
+                let e : number ≡ done = omega arith in
+                let at_done : slice_get tables done ≡ Some t = ap (slice_get tables) (sym e) ∙ at_t in
+                let same : t ≡ table = one_at tables done t table at_done at in
+                let f : file ≡ file_number tables number = s.file_is ∙ ap (file_number tables) (sym e) in
+                subst (λ (k : ℕ). Stand g map_of k blocks cs) f (now blocks (subst (λ (u : StoredTable). ArePages (byte_lists u.items) blocks) same cut)))
+          ];
+          begun = inr (room_before map_of (IsTablePlace map_of tables) olds bs s.wrote room);
+        }
+
+    no_files : (tables : List StoredTable) → length tables ≤ 0 → files_of tables ≡ []
+    no_files [] le = refl
+    no_files (t ∷ ts) le = absurd (omega arith)
+
+    pub room_at_end : (olds news : List D) (done file : ℕ) → length tables ≤ done → Storing map_of tables olds done file news → HaveRoom g map_of olds
+    room_at_end olds news done file le s = elim s.begun [
+      | inl b ↦ (λ d drive at.
+          let e : map_of.files.items ≡ [] = files ∙ no_files tables (omega (arith, le, b.0)) in
+          omega (arith, ap (shares map_of.drives d) e))
+      | inr room ↦ room
+    ]
+
+    pub hold_at_end : (olds news : List D) (done file : ℕ) → length tables ≤ done → Storing map_of tables olds done file news → HoldTables g map_of tables news
+    hold_at_end olds news done file le s = λ number table blocks at cut. s.stand number table blocks (omega (arith, le, get_below tables number table at)) at cut

@@ -1,0 +1,20 @@
+use Rattle.std.proofs.lemmas.Result.{err_from_is_err_and}
+use Rattle.table_store.proofs.Pages.{room_read, read_trans, cause_earlier, more}
+use Rattle.table_store.proofs.reading.read_pages.Goals as goal
+
+pub read_page_rows-requires-clause-room : goal.read_page_rows-requires-clause-room
+read_page_rows-requires-clause-room g c = room_read g.D.Drive c.args.map.now c.args.drives.now c.loop-number.drives c.loop-number.invariant.read c.requires.room
+
+pub returns-in_err-read_page_rows-clause-read : goal.returns-in_err-read_page_rows-clause-read
+returns-in_err-read_page_rows-clause-read g c =
+    read_trans g.D.Drive c.args.drives.now c.loop-number.drives c.read_page_rows.new.drives c.loop-number.invariant.read c.read_page_rows.ensures.read
+
+pub returns-in_err-read_page_rows-clause-err : goal.returns-in_err-read_page_rows-clause-err
+returns-in_err-read_page_rows-clause-err g c =
+    let p = err_from_is_err_and c.from_residual.result c.from_residual.ensures.1 in
+    rw (p.1, p.2) (cause_earlier g.D.Drive c.args.map.now c.args.file c.args.columns.now c.args.drives.now c.loop-number.drives c.read_page_rows.new.drives _ c.loop-number.invariant.read c.in_err-read_page_rows.ensures.err)
+
+pub loop-number-preserved : goal.loop-number-preserved
+loop-number-preserved g c =
+    more g.D.Drive c.args.map.now c.args.file c.args.columns.now c.args.drives.now c.loop-number.drives c.read_page_rows.new.drives c.loop-number.number c.loop-number.rows.items c.read_page_rows.new.rows.items
+    c.loop-number.invariant c.in_ok-read_page_rows.ensures.ok c.read_page_rows.ensures.read

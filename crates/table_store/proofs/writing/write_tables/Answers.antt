@@ -1,0 +1,50 @@
+use Rattle.std.proofs.Common.{◌+◌, arith}
+use Rattle.std.proofs.lemmas.Result.{err_from_is_err_and}
+use Rattle.table_store.specs.Images.{IsTablePlace}
+use Rattle.table_store.proofs.Again.{tell_rows}
+use Rattle.table_store.proofs.Filed.{some_at, pages_there, next_number, number_small}
+use Rattle.table_store.proofs.Stored.{cause_before, wrote_more, stored, hold_at_end, room_after, room_at_end}
+use Rattle.table_store.proofs.writing.write_tables.Goals as goal
+
+pub write_relation-requires-clause-pages : goal.write_relation-requires-clause-pages
+write_relation-requires-clause-pages g c = λ blocks cut.
+    let at = some_at c.args.tables.now c.loop-table.table-index c.table-item.result c.loop-table-test.true c.table-item.is in
+    pages_there c.args.tables.now c.args.map.now.files.items c.loop-table.table-index c.loop-table.file c.table-item.result blocks c.requires.files c.loop-table.invariant.file_is c.requires.tables at cut
+
+pub returns-in_err-write_relation-clause-written : goal.returns-in_err-write_relation-clause-written
+returns-in_err-write_relation-clause-written g c =
+    wrote_more g.D.Drive c.args.map.now c.args.tables.now c.requires.files c.requires.tables c.requires.map c.place_laws.ensures.file c.args.drives.now c.loop-table.drives c.write_relation.new.drives
+    c.loop-table.table-index c.loop-table.file c.loop-table-test.true c.loop-table.invariant c.write_relation.ensures.written
+
+pub returns-in_err-write_relation-clause-err : goal.returns-in_err-write_relation-clause-err
+returns-in_err-write_relation-clause-err g c =
+    let p = err_from_is_err_and c.from_residual.result c.from_residual.ensures.1 in
+    rw (p.1, p.2)
+    (cause_before g.D.Drive c.args.map.now c.args.tables.now c.requires.files c.requires.tables c.requires.map c.place_laws.ensures.file c.args.drives.now c.loop-table.drives c.write_relation.new.drives
+    c.loop-table.table-index c.loop-table.file _ c.loop-table.invariant c.in_err-write_relation.ensures.err)
+
+pub overflow_add-file : goal.overflow_add-file
+overflow_add-file g c =
+    let at = some_at c.args.tables.now c.loop-table.table-index c.table-item.result c.loop-table-test.true c.table-item.is in
+    omega (arith, c.loop-table.invariant.file_is, next_number c.args.tables.now c.loop-table.table-index c.table-item.result at, c.file_count-file.ensures, number_small c.args.tables.now (c.loop-table.table-index + 1), c.requires.few)
+
+pub loop-table-preserved : goal.loop-table-preserved
+loop-table-preserved g c =
+    let at = some_at c.args.tables.now c.loop-table.table-index c.table-item.result c.loop-table-test.true c.table-item.is in
+    stored g.D.Drive c.args.map.now c.args.tables.now c.requires.files c.requires.tables c.requires.map c.place_laws.ensures.file c.args.drives.now c.loop-table.drives c.write_relation.new.drives
+    c.loop-table.table-index c.loop-table.file c.file_count-file.result c.table-item.result c.loop-table.invariant at c.file_count-file.ensures c.write_relation.ensures.written c.in_ok-write_relation.ensures.room c.in_ok-write_relation.ensures.ok
+
+pub returns-clause-ok : goal.returns-clause-ok
+returns-clause-ok g c =
+    hold_at_end g.D.Drive c.args.map.now c.args.tables.now c.requires.files c.requires.tables c.requires.map c.place_laws.ensures.file c.args.drives.now c.loop-table.drives c.loop-table.table-index c.loop-table.file c.loop-table-test.false c.loop-table.invariant
+
+pub returns-clause-rows : goal.returns-clause-rows
+returns-clause-rows g c = λ number table columns rows at same few are_rows tell.
+    let hold = hold_at_end g.D.Drive c.args.map.now c.args.tables.now c.requires.files c.requires.tables c.requires.map c.place_laws.ensures.file c.args.drives.now c.loop-table.drives c.loop-table.table-index c.loop-table.file c.loop-table-test.false c.loop-table.invariant in
+    tell_rows g.D.Drive c.args.map.now c.args.tables.now (IsTablePlace c.args.map.now c.args.tables.now) c.args.drives.now c.loop-table.drives number table columns rows c.requires.files c.requires.tables
+    c.loop-table.invariant.wrote hold at same few are_rows tell
+
+pub returns-clause-room_left : goal.returns-clause-room_left
+returns-clause-room_left g c =
+    room_after g.D.Drive c.args.map.now (IsTablePlace c.args.map.now c.args.tables.now) c.args.drives.now c.loop-table.drives c.loop-table.invariant.wrote
+    (room_at_end g.D.Drive c.args.map.now c.args.tables.now c.requires.files c.requires.tables c.requires.map c.place_laws.ensures.file c.args.drives.now c.loop-table.drives c.loop-table.table-index c.loop-table.file c.loop-table-test.false c.loop-table.invariant)

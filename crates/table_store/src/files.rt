@@ -1,0 +1,97 @@
+//! The items of a table, and the files of tables.
+ghost use Rattle.std.specs.Prelude.{◌≡◌, ◌<◌, ◌≤◌, ◌++◌, IfOk, OnOk, length, All};
+ghost use Rattle.heap_page.specs.Blocks.{byte_lists};
+ghost use Rattle.heap_page.specs.Maps.{IsMap};
+ghost use Rattle.rows.specs.RowBytes.{IsRowOf};
+ghost use Rattle.table_store.specs.Files.{IsStorable, encodings, file_number, files_of, files_of_table, table_blocks};
+
+use heap_page::{FileKind, FileMap, ItemList, PageFile, pages_of};
+use lists::Sequence;
+use rows::{ColumnList, Rows, encode_row};
+use std::alloc::Global;
+use xp_outside::NoMemory;
+
+/// A table to be laid on drives: the bytes of its rows, and whether it has an index.
+#[derive(Debug, Drop)]
+pub struct StoredTable {
+    pub items: ItemList,
+    pub indexed: bool,
+}
+
+/// The bytes of each row, in order. The rows are of the columns, at most 32.
+pub fn items_of(alloc: Global, rows: &Rows, columns: &ColumnList) -> Result<ItemList, NoMemory>
+    requires few { length columns.now ≤ 32 }
+    requires rows { All (IsRowOf columns.now) rows.now }
+    ensures { IfOk result (λ items. byte_lists items ≡ encodings columns.now rows.now) }
+{
+    let mut items = Vec::with_capacity(alloc, rows.len())?;
+    for row in rows.items() {
+        items.push(encode_row(alloc, row, columns)?)?;
+    }
+    Ok(Sequence::from_vec(items))
+}
+
+// How many pages a table's heap file has.
+fn heap_pages(table: &StoredTable) -> u32
+    requires { IsStorable table.now }
+    ensures { result ≡ length (table_blocks table.now) }
+{
+    pages_of(&table.items)
+}
+
+// Adds the files of a table.
+fn add_files(files: &mut Vec<PageFile>, table: &StoredTable) -> Result<(), NoMemory>
+    requires { IsStorable table.now }
+    ensures { OnOk result (files.new.items ≡ files.old.items ++ files_of_table table.now) }
+{
+    files.push(PageFile {
+        kind: FileKind::Heap,
+        pages: heap_pages(table),
+    })?;
+    if table.indexed {
+        files.push(PageFile {
+            kind: FileKind::Index,
+            pages: 0,
+        })?;
+    }
+    Ok(())
+}
+
+/// The files of tables in their order, over so many drives: for each table a heap file with as many pages as its items
+/// need, and behind it, where the table has an index, an index file without pages. There are at most 16 tables, each of at
+/// most 1,000,000 items that fit an empty page.
+pub fn file_map(alloc: Global, tables: &[StoredTable], drives: u32) -> Result<FileMap, NoMemory>
+    requires drives { 0 < drives }
+    requires few { length tables.now ≤ 16 }
+    requires tables { All IsStorable tables.now }
+    ensures drives { IfOk result (λ map. map.drives ≡ drives) }
+    ensures files { IfOk result (λ map. map.files.items ≡ files_of tables.now) }
+    ensures map { IfOk result (λ map. IsMap map) }
+{
+    let mut files = Vec::new(alloc);
+    for table in tables {
+        add_files(&mut files, table)?;
+    }
+    Ok(FileMap { files, drives })
+}
+
+// How many files a table has.
+pub(crate) fn file_count(table: &StoredTable) -> u32
+    ensures { result ≡ length (files_of_table table.now) }
+{
+    if table.indexed { 2 } else { 1 }
+}
+
+/// The number of a table's heap file in the files of tables, at most 16. The table is counted from 0.
+pub fn heap_file_number(tables: &[StoredTable], table: u32) -> u32
+    requires few { length tables.now ≤ 16 }
+    requires table { table < length tables.now }
+    ensures number { result ≡ file_number tables.now table }
+    ensures within { result < length (files_of tables.now) }
+{
+    let mut file = 0u32;
+    for earlier in 0..table {
+        file += file_count(&tables[earlier as usize]);
+    }
+    file
+}

@@ -1,0 +1,148 @@
+ghost use Rattle.std.specs.Prelude.{◌≡◌, ◌<◌, ◌≤◌, IfOk, All, length};
+ghost use Rattle.heap_page.specs.Blocks.{FitsAlone};
+ghost use Rattle.table_store.specs.Files.{IsStorable};
+
+use crate::{StoredTable, file_map, heap_file_number, items_of, read_table, write_tables};
+use heap_page::{BadPage, FetchErr, ItemList, StoreErr};
+use lists::Sequence;
+use rows::{ColType, Column, ColumnList, Text};
+use std::alloc::Global;
+use std::test::Fail;
+use xp_outside::{Drive, MemDrive, NoMemory, Rack, WildRack};
+
+fn column(alloc: Global, name: &[u8], col_type: ColType) -> Result<Column, NoMemory> {
+    Ok(Column {
+        name: Text::from_slice(alloc, name)?,
+        col_type,
+        nullable: false,
+    })
+}
+
+// A name, a department and a number.
+fn columns(alloc: Global) -> Result<ColumnList, NoMemory>
+    ensures { IfOk result (λ columns. length columns ≤ 32) }
+{
+    let name = column(alloc, b"name", ColType::Text)?;
+    let dept = column(alloc, b"dept", ColType::Text)?;
+    let sal = column(alloc, b"sal", ColType::Int4)?;
+    Ok(Sequence::from_vec(vec![in alloc; name, dept, sal]?))
+}
+
+fn item(alloc: Global, bytes: &[u8]) -> Result<Vec<u8>, NoMemory>
+    ensures { IfOk result (λ item. FitsAlone item.items) }
+{
+    if bytes.len() <= 8168 {
+        Vec::from_slice(alloc, bytes)
+    } else {
+        Ok(Vec::new(alloc))
+    }
+}
+
+// Three tables: the first has three rows and an index, the second no row, the third one row.
+fn tables(alloc: Global) -> Result<Vec<StoredTable>, NoMemory>
+    ensures few { IfOk result (λ tables. length tables.items ≤ 16) }
+    ensures each { IfOk result (λ tables. All IsStorable tables.items) }
+{
+    let ann = item(alloc, b"\x00\x03Ann\x00\x03toy\x00\x00\x04\xb0")?;
+    let bob = item(alloc, b"\x00\x03Bob\x00\x03toy\x00\x00\x03\x84")?;
+    let cid = item(alloc, b"\x00\x03Cid\x00\x04shoe\x00\x00\x05\xdc")?;
+    let dan = item(alloc, b"\x00\x03Dan\x00\x00\xff\xff\xff\xff")?;
+    let first = StoredTable {
+        items: Sequence::from_vec(vec![in alloc; ann, bob, cid]?),
+        indexed: true,
+    };
+    let second = StoredTable {
+        items: Sequence::new(alloc),
+        indexed: false,
+    };
+    let third = StoredTable {
+        items: Sequence::from_vec(vec![in alloc; dan]?),
+        indexed: false,
+    };
+    Ok(vec![in alloc; first, second, third]?)
+}
+
+// Writes tables on so many drives, reads a file, and gives the bytes of the rows that were read.
+fn write_and_read<D: Drive>(
+    alloc: Global,
+    drives: &mut [D],
+    count: u32,
+    tables: &[StoredTable],
+    file: u32,
+) -> Result<Result<ItemList, FetchErr>, StoreErr>
+    requires drives { length drives.old ≡ count }
+    requires some { 0 < count }
+    requires few { length tables.now ≤ 16 }
+    requires each { All IsStorable tables.now }
+{
+    let columns = columns(alloc)?;
+    let map = file_map(alloc, tables, count)?;
+    write_tables(alloc, drives, &map, tables)?;
+    if file as usize >= map.files.len() {
+        return Ok(Err(FetchErr::NoMemory));
+    }
+    match read_table(alloc, drives, &map, file, &columns) {
+        Ok(rows) => Ok(Ok(items_of(alloc, &rows, &columns)?)),
+        Err(error) => Ok(Err(error)),
+    }
+}
+
+// Two drives of which the second one has no page.
+fn two_drives(alloc: Global, pages: u32) -> Result<Vec<MemDrive>, NoMemory>
+    ensures { IfOk result (λ drives. length drives.items ≡ 2) }
+{
+    let first = MemDrive::new(alloc, pages, Sequence::new(alloc), Sequence::new(alloc))?;
+    let second = MemDrive::new(alloc, 0, Sequence::new(alloc), Sequence::new(alloc))?;
+    Ok(vec![in alloc; first, second]?)
+}
+
+#[test]
+fn tables_are_written_and_read_back(rt: HostRuntime) -> Result<(), Fail> {
+    let alloc = rt.alloc();
+    let tables = tables(alloc)?;
+    // the number of a table, and that of its heap file
+    for (table, file) in [(0u32, 0u32), (1, 2), (2, 3)] {
+        assert!(rt; (table as usize) < tables.len());
+        assert_eq!(rt; heap_file_number(&tables, table), file);
+        let mut drives = two_drives(alloc, 2)?;
+        let read = write_and_read(alloc, &mut drives, 2, &tables, file);
+        let items = &tables[table as usize].items;
+        assert!(rt; matches!(&read, Ok(Ok(found)) if found.items() == items.items()));
+    }
+    let mut small = two_drives(alloc, 1)?;
+    let full = StoreErr::DriveFull {
+        drive: 0,
+        needs: 2,
+        capacity: 1,
+    };
+    let read = write_and_read(alloc, &mut small, 2, &tables, 0);
+    assert!(rt; matches!(read, Err(found) if found == full));
+    Ok(())
+}
+
+// The items that are read of the first table, where each read has a bit changed.
+fn read_changed(alloc: Global, byte: u32) -> Result<Result<ItemList, FetchErr>, StoreErr>
+    requires { byte < 8192 }
+{
+    let tables = tables(alloc)?;
+    match WildRack::new(2, byte, 1).mount(alloc, 1) {
+        Ok(mut drives) => write_and_read(alloc, &mut drives, 1, &tables, 0),
+        Err(_) => Err(StoreErr::NoMemory),
+    }
+}
+
+#[test]
+fn a_changed_bit_breaks_rule_9_or_changes_a_value(rt: HostRuntime) {
+    let bad = BadPage {
+        file: 0,
+        page: 0,
+        rule: 9,
+    };
+    let broken = read_changed(rt.alloc(), 8179);
+    assert!(rt; matches!(broken, Ok(Err(error)) if error == FetchErr::BadPage(bad)));
+    let raised = b"\x00\x03Ann\x00\x03toy\x00\x00\x04\xb1";
+    let changed = read_changed(rt.alloc(), 8191);
+    assert!(rt;
+        matches!(&changed, Ok(Ok(items)) if items.len() == 3 && items.get(0).as_slice() == raised.as_slice())
+    );
+}
