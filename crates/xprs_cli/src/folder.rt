@@ -1,4 +1,4 @@
-ghost use Rattle.std.specs.Prelude.{◌≤◌, None, OnOk, IfOk, vec_len};
+ghost use Rattle.std.specs.Prelude.{◌≡◌, ◌≤◌, None, OnOk, IfOk, vec_len};
 
 use std::alloc::Global;
 use std::fs::File;
@@ -16,7 +16,9 @@ pub struct FolderShelf<'a, R: Files> {
 
 impl<'a, R: Files> FolderShelf<'a, R> {
     /// A shelf without a fault yet.
-    pub fn new(rt: &'a R) -> FolderShelf<'a, R> {
+    pub fn new(rt: &'a R) -> FolderShelf<'a, R>
+        ensures { result.faults ≡ 0 }
+    {
         FolderShelf { rt, faults: 0 }
     }
 }

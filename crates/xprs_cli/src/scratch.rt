@@ -1,4 +1,4 @@
-ghost use Rattle.std.specs.Prelude.{None};
+ghost use Rattle.std.specs.Prelude.{◌≡◌, None};
 
 use std::alloc::Global;
 use std::fs::{OpenFile, OpenOptions};
@@ -59,7 +59,9 @@ pub struct FileRack<'a, R> {
 
 impl<'a, R: Files> FileRack<'a, R> {
     /// A rack without a fault yet.
-    pub fn new(rt: &'a R) -> FileRack<'a, R> {
+    pub fn new(rt: &'a R) -> FileRack<'a, R>
+        ensures { result.faults ≡ 0 }
+    {
         FileRack { rt, faults: 0 }
     }
 }
