@@ -5,3 +5,5 @@ mod Encoded
 mod Filed
 mod Pages
 mod Stored
+pub mod Laying
+pub mod DatabaseRead

@@ -2,3 +2,4 @@ pub mod Files
 pub mod Readings
 pub mod Steps
 pub mod Images
+pub mod Databases

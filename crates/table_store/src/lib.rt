@@ -1,6 +1,8 @@
 //! Tables on striped drives: their files, their pages, and their rows read back.
 #![tactic(auto)]
 
+mod database;
+mod database_reading;
 mod files;
 mod page_rows;
 mod reading;
@@ -8,6 +10,8 @@ mod reading;
 mod tests;
 mod writing;
 
+pub use database::{Laid, lay_database};
+pub use database_reading::read_database;
 pub use files::{StoredTable, file_map, heap_file_number, items_of};
 pub use reading::read_table;
 pub use writing::write_tables;

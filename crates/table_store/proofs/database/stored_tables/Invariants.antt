@@ -1,0 +1,5 @@
+use Rattle.table_store.proofs.Laying.{Encoded}
+use Rattle.table_store.proofs.database.stored_tables.Given as goal
+
+abbrev pub invariant-loop-place : goal.invariant-loop-place
+invariant-loop-place l = Encoded l.catalog l.fn.db l.place l.tables.items

@@ -1,0 +1,115 @@
+//! Databases on drives.
+ghost use Rattle.std.specs.Prelude.{◌≡◌, ◌<◌, ◌≤◌, ◌^◌, ℕ, List, Some, IfOk, IfErr, All, length, slice_get};
+ghost use Rattle.heap_page.specs.Blocks.{byte_lists};
+ghost use Rattle.heap_page.specs.Stores.{HaveRoom};
+ghost use Rattle.rows.specs.declared.plain.Column.{Column};
+ghost use Rattle.rows.specs.declared.value.Value.{Value};
+ghost use Rattle.rows.specs.RowBytes.{IsRowOf};
+ghost use Rattle.table_store.specs.declared.files.StoredTable.{StoredTable};
+ghost use Rattle.table_store.specs.Databases.{AllFresh, AreKept, AreStored, IsLaid, IsLaidOut, IsStored, IsTableOf, LayCause, LayoutCause, MayStore};
+ghost use Rattle.table_store.specs.Files.{IsStorable, encodings, file_number, files_of};
+ghost use Rattle.table_store.specs.Images.{HoldImage};
+ghost use Rattle.table_store.specs.Readings.{AllTell, TellRows};
+
+use crate::{StoredTable, file_map, heap_file_number, items_of, write_tables};
+use heap_page::{FileMap, StoreErr};
+use rel_meaning::{Database, Table};
+use rows::{Catalog, Relation};
+use std::alloc::Global;
+use xp_outside::{Drive, NoMemory};
+
+/// Where tables stand on drives: their files, and the number of each table's heap file.
+#[derive(Debug, Drop)]
+pub struct Laid {
+    pub map: FileMap,
+    pub heaps: Vec<u32>,
+}
+
+// A table as it is stored.
+fn stored_table(alloc: Global, relation: &Relation, table: &Table) -> Result<StoredTable, NoMemory>
+    requires { IsTableOf relation.now table.now }
+    ensures stored { IfOk result (IsStored relation.now table.now) }
+    ensures storable { IfOk result IsStorable }
+{
+    Ok(StoredTable {
+        items: items_of(alloc, &table.rows, &table.columns)?,
+        indexed: relation.index.is_some(),
+    })
+}
+
+// The tables of a database as they are stored. The database itself is given up.
+fn stored_tables(
+    alloc: Global,
+    catalog: &Catalog,
+    db: Database,
+) -> Result<Vec<StoredTable>, NoMemory>
+    requires { MayStore catalog.now db }
+    ensures stored { IfOk result (λ tables. AreStored catalog.now db tables.items) }
+    ensures storable { IfOk result (λ tables. All IsStorable tables.items) }
+{
+    let mut tables = Vec::new(alloc);
+    for (place, relation) in catalog.items().iter().enumerate() {
+        tables.push(stored_table(alloc, relation, db.get(place))?)?;
+    }
+    Ok(tables)
+}
+
+// The number of each table's heap file.
+fn heap_files(alloc: Global, tables: &[StoredTable]) -> Result<Vec<u32>, NoMemory>
+    requires { length tables.now ≤ 16 }
+    ensures count { IfOk result (λ heaps. length heaps.items ≡ length tables.now) }
+    ensures heaps { IfOk result (λ heaps. (i heap : ℕ) → slice_get heaps.items i ≡ Some heap → heap ≡ file_number tables.now i) }
+    ensures within { IfOk result (λ heaps. All (λ heap. heap < length (files_of tables.now)) heaps.items) }
+{
+    let mut heaps = Vec::new(alloc);
+    for table in 0..tables.len() as u32 {
+        heaps.push(heap_file_number(tables, table))?;
+    }
+    Ok(heaps)
+}
+
+// Lays tables on drives.
+fn lay<D: Drive>(
+    alloc: Global,
+    drives: &mut [D],
+    tables: &[StoredTable],
+) -> Result<Laid, StoreErr>
+    requires some { 0 < length drives.old }
+    requires count { length drives.old < 2 ^ 32 }
+    requires few { length tables.now ≤ 16 }
+    requires tables { All IsStorable tables.now }
+    ensures kept { AreKept D.Drive drives.old drives.new }
+    ensures laid { IfOk result (IsLaid tables.now (length drives.old)) }
+    ensures room { IfOk result (λ laid. HaveRoom D.Drive laid.map drives.new) }
+    ensures image { AllFresh D.Drive drives.old → IfOk result (λ laid. HoldImage D.Drive laid.map tables.now drives.new) }
+    ensures tell { (number : ℕ) (table : StoredTable) (columns : List Column) (rows : List (List Value)) → slice_get tables.now number ≡ Some table → byte_lists table.items ≡ encodings columns rows → length columns ≤ 32 → All (IsRowOf columns) rows → AllTell D.Drive drives.old → IfOk result (λ laid. TellRows D.Drive laid.map (file_number tables.now number) columns rows drives.new) }
+    ensures err { IfErr result (LayCause D.Drive tables.now drives.old drives.new) }
+{
+    let map = file_map(alloc, tables, drives.len() as u32)?;
+    let heaps = heap_files(alloc, tables)?;
+    write_tables(alloc, drives, &map, tables)?;
+    Ok(Laid { map, heaps })
+}
+
+/// Lays a database on drives: each relation's rows in the pages of its heap file, file after file, striped over the
+/// drives. There are 1 to 4,294,967,295 drives, at most 16 relations and a table of each, with at most 1,000,000 rows whose
+/// encodings have at most 8,168 bytes. `DriveFull` comes exactly where some drive is smaller than the files need there, with
+/// the first such drive, before any write. `DriveFault` comes only where that drive's count rises. After an `Ok` each drive
+/// that was new and tells holds exactly its part of the files, and zeros elsewhere; drives that all tell, tell the rows of
+/// each table. Whatever the answer, each drive keeps its number of pages and tells exactly where it told.
+pub fn lay_database<D: Drive>(
+    alloc: Global,
+    drives: &mut [D],
+    catalog: &Catalog,
+    db: Database,
+) -> Result<Laid, StoreErr>
+    requires some { 0 < length drives.old }
+    requires count { length drives.old < 2 ^ 32 }
+    requires stored { MayStore catalog.now db }
+    ensures kept { AreKept D.Drive drives.old drives.new }
+    ensures laid { IfOk result (IsLaidOut D.Drive catalog.now db drives.old drives.new) }
+    ensures err { IfErr result (LayoutCause D.Drive catalog.now db drives.old drives.new) }
+{
+    let tables = stored_tables(alloc, catalog, db)?;
+    lay(alloc, drives, tables.as_slice())
+}

@@ -1,0 +1,92 @@
+//! Databases read back from drives.
+ghost use Rattle.std.specs.Prelude.{◌≡◌, ◌<◌, ℕ, List, Some, Err, IfOk, IfErr, All, length, map, slice_get};
+ghost use Rattle.heap_page.specs.declared.errors.BadPage.{BadPage};
+ghost use Rattle.heap_page.specs.declared.errors.FetchErr.TheVariants as fetch;
+ghost use Rattle.heap_page.specs.Maps.{IsMap};
+ghost use Rattle.heap_page.specs.Stores.{AreRead, HaveRoom};
+ghost use Rattle.rows.specs.declared.plain.Column.{Column};
+ghost use Rattle.rows.specs.declared.value.Value.{Value};
+ghost use Rattle.rows.specs.RowBytes.{IsRowOf};
+ghost use Rattle.rel_meaning.specs.declared.query.Table.{Table};
+ghost use Rattle.table_store.specs.Databases.{ReadCause, TellTables};
+ghost use Rattle.table_store.specs.Readings.{TellRows};
+
+use crate::database::Laid;
+use crate::reading::read_table;
+use heap_page::FetchErr;
+use lists::{Duplicate, Sequence};
+use rel_meaning::{Database, Table};
+use rows::{Catalog, Column, Relation};
+use std::alloc::{AllocError, Global};
+use xp_outside::Drive;
+
+fn copied(alloc: Global, columns: &[Column]) -> Result<Vec<Column>, AllocError>
+    ensures { IfOk result (λ copy. copy.items ≡ columns.now) }
+{
+    let mut copy = Vec::with_capacity(alloc, columns.len())?;
+    for column in columns {
+        copy.push(Column {
+            name: column.name.duplicate(alloc)?,
+            col_type: column.col_type,
+            nullable: column.nullable,
+        })?;
+    }
+    Ok(copy)
+}
+
+// The table of a relation, from its heap file.
+fn read_relation<D: Drive>(
+    alloc: Global,
+    drives: &mut [D],
+    laid: &Laid,
+    heap: u32,
+    relation: &Relation,
+) -> Result<Table, FetchErr>
+    requires map { IsMap laid.now.map }
+    requires drives { length drives.old ≡ laid.now.map.drives }
+    requires heap { heap < length laid.now.map.files.items }
+    requires room { HaveRoom D.Drive laid.now.map drives.old }
+    ensures read { AreRead D.Drive drives.old drives.new }
+    ensures room { HaveRoom D.Drive laid.now.map drives.new }
+    ensures columns { IfOk result (λ table. table.columns ≡ relation.now.columns) }
+    ensures typed { IfOk result (λ table. All (IsRowOf table.columns) table.rows) }
+    ensures again { (rows : List (List Value)) → TellRows D.Drive laid.now.map heap relation.now.columns rows drives.old → IfOk result (λ table. table.rows ≡ rows) }
+    ensures accepted { (rows : List (List Value)) (bad : BadPage) → TellRows D.Drive laid.now.map heap relation.now.columns rows drives.old → result ≡ Err (fetch.BadPage bad) → ⊥ }
+    ensures err { IfErr result (ReadCause D.Drive laid.now drives.old drives.new) }
+{
+    let rows = read_table(alloc, drives, &laid.map, heap, &relation.columns)?;
+    Ok(Table {
+        columns: Sequence::from_vec(copied(alloc, relation.columns.items())?),
+        rows,
+    })
+}
+
+/// The tables of a database that was laid on drives, read back page by page. They have the columns of the relations, and
+/// their rows are of these columns, whatever the drives tell. Drives that tell the rows of a database give just that
+/// database, and no `BadPage`. `DriveFault` comes only where that drive's count rises. `BadPage` has a page of a heap file and
+/// the first rule that it breaks. Each drive keeps its number of pages and all that it tells.
+pub fn read_database<D: Drive>(
+    alloc: Global,
+    drives: &mut [D],
+    laid: &Laid,
+    catalog: &Catalog,
+) -> Result<Database, FetchErr>
+    requires map { IsMap laid.now.map }
+    requires drives { length drives.old ≡ laid.now.map.drives }
+    requires count { length laid.now.heaps.items ≡ length catalog.now }
+    requires heaps { All (λ heap. heap < length laid.now.map.files.items) laid.now.heaps.items }
+    requires room { HaveRoom D.Drive laid.now.map drives.old }
+    ensures read { AreRead D.Drive drives.old drives.new }
+    ensures columns { IfOk result (λ db. map (λ t. t.columns) db ≡ map (λ r. r.columns) catalog.now) }
+    ensures typed { IfOk result (All (λ t. All (IsRowOf t.columns) t.rows)) }
+    ensures again { (db : List Table) → map (λ t. t.columns) db ≡ map (λ r. r.columns) catalog.now → TellTables D.Drive laid.now db drives.old → IfOk result (λ found. found ≡ db) }
+    ensures accepted { (db : List Table) (bad : BadPage) → map (λ t. t.columns) db ≡ map (λ r. r.columns) catalog.now → TellTables D.Drive laid.now db drives.old → result ≡ Err (fetch.BadPage bad) → ⊥ }
+    ensures err { IfErr result (ReadCause D.Drive laid.now drives.old drives.new) }
+{
+    let mut tables = Vec::new(alloc);
+    for (place, relation) in catalog.items().iter().enumerate() {
+        let heap = laid.heaps[place];
+        tables.push(read_relation(alloc, drives, laid, heap, relation)?)?;
+    }
+    Ok(Sequence::from_vec(tables))
+}
