@@ -2,8 +2,8 @@ mod Addresses
 mod Again
 mod Cut
 mod Encoded
-mod Filed
-mod Pages
+pub mod Filed
+pub mod Pages
 mod Stored
 pub mod Laying
 pub mod DatabaseRead

@@ -2,6 +2,9 @@ pub mod Fronts
 pub mod Tables
 pub mod Told
 pub mod Joined
-pub mod Spelled
-pub mod OneText
+pub mod Short
+pub mod Stored
+pub mod Devices
+pub mod Caused
+pub mod OneJob
 pub mod Refusals

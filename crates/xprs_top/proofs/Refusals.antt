@@ -1,52 +1,76 @@
--- Told files that give a text are answered, and so is a fault of theirs.
-use Rattle.std.proofs.Common.{◌≡◌, ℕ, List, Option, Some, Ok, Err, Result, subst}
+-- Told files that give a job are answered, and so is a fault of theirs.
+use Rattle.std.proofs.Common.{◌≡◌, ◌≤◌, ◌<◌, ℕ, List, Bool, true, false, true≢false, Option, Some, None, Ok, Err, Result, sym, ap, subst, ◌∙◌, arith}
+use Rattle.std.specs.Prelude.{is_some, IsTrue}
+use Rattle.xp_outside.specs.declared.drive.Drive.{Ghosts}
+use Rattle.table_store.specs.Readings.{AllTell}
 use Rattle.xprs_top.specs.declared.status.Status.{Status}
-use Rattle.xprs_top.specs.declared.status.Status.TheVariants.{Done, Usage, Refused, ShelfFault, SinkFault, NoMemory, NotBuilt}
-use Rattle.xprs_top.specs.Readings.{Files, IsText}
-use Rattle.xprs_top.specs.Runs.{Caused, Completes, Faulty, Gives, Outside, Refuses}
+use Rattle.xprs_top.specs.declared.status.Status.TheVariants.{Done, Usage, Refused, ShelfFault, DriveFault, Bad, SinkFault, NoMemory, DriveFull, NotBuilt}
+use Rattle.xprs_top.specs.Devices.{Exceeds, IsRoomy, IsUntold}
+use Rattle.xprs_top.specs.Readings.{Files, IsJob, Job, write, answer}
+use Rattle.xprs_top.specs.Runs.{Asks, Caused, Completes, Faulty, IsDoneOrNoMemory, IsThisOrShelfFaultOrNoMemory, Outside, Refuses}
 use Rattle.xprs_top.specs.Words.{Request}
-use Rattle.xprs_top.proofs.OneText.{one_text}
+use Rattle.xprs_top.proofs.OneJob.{one_job}
 
 abbrev Found : Type 0
-Found = Result (List ℕ) Status
+Found = Result Job Status
 
 -- what is shown of told files is what they are read as
 at_files : (told : Option Files) (form : Option Request) (request : Request) (files : Files) (P : Option Files → Option Request → Type 0) → form ≡ Some request → told ≡ Some files → P told form → P (Some files) (Some request)
 at_files told form request files P e f h = subst (λ t. P t (Some request)) f (subst (P told) e h)
 
-faulty_is : (told : Option Files) (form : Option Request) (status : Status) (request : Request) (files : Files) (found : Found) → form ≡ Some request → told ≡ Some files → IsText files request found → Faulty told form status →
+faulty_is : (told : Option Files) (form : Option Request) (status : Status) (request : Request) (files : Files) (found : Found) → form ≡ Some request → told ≡ Some files → IsJob files request found → Faulty told form status →
     ◌≡◌ {A = Found} found (Err status)
-faulty_is told form status request files found e f k h = one_text files request found (Err status) k (at_files told form request files (λ t r. Faulty t r status) e f h)
+faulty_is told form status request files found e f k h = one_job files request found (Err status) k (at_files told form request files (λ t r. Faulty t r status) e f h)
 
-gives_is : (told : Option Files) (form : Option Request) (P : List ℕ → Type 0) (request : Request) (files : Files) (found : Found) → form ≡ Some request → told ≡ Some files → IsText files request found → Gives told form P →
-    (text : List ℕ) × (◌≡◌ {A = Found} found (Ok text))
-gives_is told form P request files found e f k h =
-    let g = at_files told form request files (λ t r. Gives t r P) e f h in
-    (g.0, one_text files request found (Ok g.0) k g.1)
+asks_is : (told : Option Files) (form : Option Request) (job : Job) (request : Request) (files : Files) (found : Found) → form ≡ Some request → told ≡ Some files → IsJob files request found → Asks told form job →
+    ◌≡◌ {A = Found} found (Ok job)
+asks_is told form job request files found e f k h = one_job files request found (Ok job) k (at_files told form request files (λ t r. Asks t r job) e f h)
 
-not_given : (fault : Status) → (text : List ℕ) × (◌≡◌ {A = Found} (Err fault) (Ok text)) → ⊥
-not_given fault (text, e) = cc
+not_asked : (fault : Status) (job : Job) → ◌≡◌ {A = Found} (Err fault) (Ok job) → ⊥
+not_asked fault job e = cc
 
 same_fault : (fault status : Status) → ◌≡◌ {A = Found} (Err fault) (Err status) → status ≡ fault
 same_fault fault status e = cc
 
-pub refused : (form : Option Request) (o : Outside) (status : Status) → Caused form o status → Refuses form o status
-refused form o Done h request files fault e f k = absurd (not_given fault (gives_is o.files form _ request files (Err fault) e f k h))
-refused form o Usage h request files fault e f k = cc
-refused form o (Refused r) h request files fault e f k = same_fault fault (Refused r) (faulty_is o.files form (Refused r) request files (Err fault) e f k h.0)
-refused form o ShelfFault h request files fault e f k = tt
-refused form o SinkFault h request files fault e f k = absurd (not_given fault (gives_is o.files form _ request files (Err fault) e f k h.1))
-refused form o NoMemory h request files fault e f k = tt
-refused form o NotBuilt h request files fault e f k = same_fault fault NotBuilt (faulty_is o.files form NotBuilt request files (Err fault) e f k h.0)
+no_fault : (job : Job) (status : Status) → ◌≡◌ {A = Found} (Ok job) (Err status) → ⊥
+no_fault job status e = cc
 
-no_fault : (text : List ℕ) (status : Status) → ◌≡◌ {A = Found} (Ok text) (Err status) → ⊥
-no_fault text status e = cc
+same_job : (a b : Job) → ◌≡◌ {A = Found} (Ok a) (Ok b) → b ≡ a
+same_job a b e = cc
 
-pub completed : (form : Option Request) (o : Outside) (status : Status) → Caused form o status → Completes form o status
-completed form o Done h request files text e f k s w = tt
-completed form o Usage h request files text e f k s w = cc
-completed form o (Refused r) h request files text e f k s w = no_fault text (Refused r) (faulty_is o.files form (Refused r) request files (Ok text) e f k h.0)
-completed form o ShelfFault h request files text e f k s w = s h.0
-completed form o SinkFault h request files text e f k s w = w h.0
-completed form o NoMemory h request files text e f k s w = tt
-completed form o NotBuilt h request files text e f k s w = no_fault text NotBuilt (faulty_is o.files form NotBuilt request files (Ok text) e f k h.0)
+module _ {D : Type 0} (g : Ghosts D) where
+  pub refused : (form : Option Request) (o : Outside) (drives : List D) (status : Status) → Caused g form o drives status → Refuses form o status
+  refused form o drives Done h request files fault e f k = absurd (not_asked fault h.0 (asks_is o.files form h.0 request files (Err fault) e f k h.1))
+  refused form o drives Usage h request files fault e f k = cc
+  refused form o drives (Refused r) h request files fault e f k = same_fault fault (Refused r) (faulty_is o.files form (Refused r) request files (Err fault) e f k h.0)
+  refused form o drives ShelfFault h request files fault e f k = tt
+  refused form o drives (DriveFault None) h request files fault e f k = absurd (not_asked fault h.0 (asks_is o.files form h.0 request files (Err fault) e f k h.1))
+  refused form o drives (DriveFault (Some d)) h request files fault e f k = absurd (not_asked fault h.0 (asks_is o.files form h.0 request files (Err fault) e f k h.1))
+  refused form o drives (Bad bad) h request files fault e f k = absurd (not_asked fault h.0 (asks_is o.files form h.0 request files (Err fault) e f k h.1))
+  refused form o drives SinkFault h request files fault e f k = absurd (not_asked fault h.0 (asks_is o.files form h.0 request files (Err fault) e f k h.2))
+  refused form o drives NoMemory h request files fault e f k = tt
+  refused form o drives (DriveFull d needs capacity) h request files fault e f k = absurd (not_asked fault h.0 (asks_is o.files form h.0 request files (Err fault) e f k h.1))
+  refused form o drives NotBuilt h request files fault e f k = same_fault fault NotBuilt (faulty_is o.files form NotBuilt request files (Err fault) e f k h.0)
+
+  not_untold : (drives : List D) → AllTell g drives → IsUntold g drives → ⊥
+  not_untold drives all u = true≢false (sym (subst (λ (p : Option (List (List ℕ))). IsTrue (is_some p)) u.untold (all u.number u.drive u.here)))
+
+  not_full : (job : Job) (d needs capacity : ℕ) (drives : List D) → IsRoomy g job drives → Exceeds g job d needs capacity drives → ⊥
+  not_full (write text) d needs capacity drives roomy full = full
+  not_full (answer checked db) d needs capacity drives roomy over =
+      let room = roomy over.layout d over.full.drive over.full.here in
+      omega (arith, room, over.full.small, over.full.needs_is, over.full.capacity_is)
+
+  pub completed : (form : Option Request) (o : Outside) (drives : List D) (status : Status) → Caused g form o drives status → Completes g form o drives status
+  completed form o drives Done h request files job e f k all none roomy s r w = tt
+  completed form o drives Usage h request files job e f k all none roomy s r w = cc
+  completed form o drives (Refused x) h request files job e f k all none roomy s r w = no_fault job (Refused x) (faulty_is o.files form (Refused x) request files (Ok job) e f k h.0)
+  completed form o drives ShelfFault h request files job e f k all none roomy s r w = s h.0
+  completed form o drives (DriveFault None) h request files job e f k all none roomy s r w = r h.2
+  completed form o drives (DriveFault (Some d)) h request files job e f k all none roomy s r w = none d h.3
+  completed form o drives (Bad bad) h request files job e f k all none roomy s r w = not_untold drives all h.3
+  completed form o drives SinkFault h request files job e f k all none roomy s r w = w h.1
+  completed form o drives NoMemory h request files job e f k all none roomy s r w = tt
+  completed form o drives (DriveFull d needs capacity) h request files job e f k all none roomy s r w =
+      not_full job d needs capacity drives roomy (subst (λ (j : Job). Exceeds g j d needs capacity drives) (same_job job h.0 (asks_is o.files form h.0 request files (Ok job) e f k h.1)) h.2)
+  completed form o drives NotBuilt h request files job e f k all none roomy s r w = no_fault job NotBuilt (faulty_is o.files form NotBuilt request files (Ok job) e f k h.0)

@@ -8,7 +8,7 @@ use Rattle.rel_meaning.specs.Meaning.{IsTable}
 use Rattle.name_check.specs.Resolved.{AreTables}
 use Rattle.rel_meaning.specs.declared.query.Table.{Table}
 use Rattle.xprs_top.specs.declared.status.Status.{Status}
-use Rattle.xprs_top.specs.declared.status.Status.TheVariants.{Done, Usage, Refused, ShelfFault, SinkFault, NoMemory, NotBuilt}
+use Rattle.xprs_top.specs.declared.status.Status.TheVariants.{Done, Usage, Refused, ShelfFault, DriveFault, Bad, SinkFault, NoMemory, DriveFull, NotBuilt}
 use Rattle.xprs_top.specs.Inputs.{OnFiles, Shows, Told, Finds}
 use Rattle.xprs_top.specs.Readings.{Files, Just, Then, bind, table_of, tables_of}
 use Rattle.xprs_top.proofs.Tables.{faulty, one_more, more_tables, table_with}
@@ -26,8 +26,11 @@ module _ {A B X : Type 0} (first : Files → Result A Status → Type 0) (next :
   found_in told before now (Err Usage) h f = f
   found_in told before now (Err (Refused r)) h f = there told (Err (Refused r)) h f
   found_in told before now (Err ShelfFault) h f = absurd f
+  found_in told before now (Err (DriveFault d)) h f = absurd f
+  found_in told before now (Err (Bad bad)) h f = absurd f
   found_in told before now (Err SinkFault) h f = f
   found_in told before now (Err NoMemory) h f = tt
+  found_in told before now (Err (DriveFull d needs capacity)) h f = absurd f
   found_in told before now (Err NotBuilt) h f = there told (Err NotBuilt) h f
 
 one_item_more : (xs : List Relation) (i : ℕ) (d : Relation) → i < length xs → take (i + 1) xs ≡ take i xs ++ get_or xs i d ∷ []
@@ -46,8 +49,11 @@ stopped told then same before mid now le xs i d h ts read (Refused r) shows = by
   by None k e = tt
   by (Some files) k e = ap (tables_of files) (sym (split xs i d h)) ∙ faulty files (take i xs) (drop (i + 1) xs) (get_or xs i d) ts (Refused r) k e
 stopped told then same before mid now le xs i d h ts read ShelfFault shows = omega (arith, le, shows)
+stopped told then same before mid now le xs i d h ts read (DriveFault number) shows = absurd shows
+stopped told then same before mid now le xs i d h ts read (Bad bad) shows = absurd shows
 stopped told then same before mid now le xs i d h ts read SinkFault shows = shows
 stopped told then same before mid now le xs i d h ts read NoMemory shows = tt
+stopped told then same before mid now le xs i d h ts read (DriveFull number needs capacity) shows = absurd shows
 stopped told then same before mid now le xs i d h ts read NotBuilt shows = by told read (subst (λ t. OnFiles t (λ files. Just (table_of files (get_or xs i d)) (Err NotBuilt))) same shows) where
   by : (t : Option Files) → OnFiles t (λ files. tables_of files (take i xs) ≡ Ok ts) → OnFiles t (λ files. Just (table_of files (get_or xs i d)) (Err NotBuilt)) → OnFiles t (λ files. Just (tables_of files xs) (Err NotBuilt))
   by None k e = tt
@@ -96,8 +102,11 @@ module _ {A B X : Type 0} (first : Files → Result A Status → Type 0) (next :
   then_told told then same before mid now le (Err Usage) h f = f
   then_told told then same before mid now le (Err (Refused r)) h f = both told (Err (Refused r)) h (subst (λ t. OnFiles t (λ files. next x files (Err (Refused r)))) same f)
   then_told told then same before mid now le (Err ShelfFault) h f = omega (arith, le, f)
+  then_told told then same before mid now le (Err (DriveFault d)) h f = absurd f
+  then_told told then same before mid now le (Err (Bad bad)) h f = absurd f
   then_told told then same before mid now le (Err SinkFault) h f = f
   then_told told then same before mid now le (Err NoMemory) h f = tt
+  then_told told then same before mid now le (Err (DriveFull d needs capacity)) h f = absurd f
   then_told told then same before mid now le (Err NotBuilt) h f = both told (Err NotBuilt) h (subst (λ t. OnFiles t (λ files. next x files (Err NotBuilt))) same f)
 
 -- what is found of a first reading, where that is a function
@@ -114,6 +123,9 @@ bound_told {A} {B} {X} first next x view told before now result h f = by told re
   by t (Err Usage) h f = f
   by t (Err (Refused r)) h f = there t (Err (Refused r)) h f
   by t (Err ShelfFault) h f = absurd f
+  by t (Err (DriveFault d)) h f = absurd f
+  by t (Err (Bad bad)) h f = absurd f
   by t (Err SinkFault) h f = f
   by t (Err NoMemory) h f = tt
+  by t (Err (DriveFull d needs capacity)) h f = absurd f
   by t (Err NotBuilt) h f = there t (Err NotBuilt) h f

@@ -8,7 +8,7 @@ use Rattle.postquel_tokens.specs.declared.fault.What.TheVariants as what
 use Rattle.catalog_load.specs.declared.fault.TableWhat.{TableWhat}
 use Rattle.catalog_load.specs.declared.fault.TableWhat.TheVariants as table
 use Rattle.xprs_top.specs.declared.status.Status.{Status}
-use Rattle.xprs_top.specs.declared.status.Status.TheVariants.{Done, Usage, Refused, ShelfFault, SinkFault, NoMemory, NotBuilt}
+use Rattle.xprs_top.specs.declared.status.Status.TheVariants.{Done, Usage, Refused, ShelfFault, DriveFault, Bad, SinkFault, NoMemory, DriveFull, NotBuilt}
 use Rattle.xprs_top.specs.declared.status.Refused.TheVariants.{Missing, TooLong, Script, Table}
 
 -- the name of a fault of a catalogue or a script
@@ -76,8 +76,12 @@ fault_line (Refused (TooLong name)) = line (name ∷ codes ": too long" ∷ [])
 fault_line (Refused (Script name row col what)) = line (name ∷ codes ":" ∷ decimal row ∷ codes ":" ∷ decimal col ∷ codes ": " ∷ what_name what ∷ bound_text (what_bound what) ∷ [])
 fault_line (Refused (Table name number column what)) = line (name ∷ codes ": record " ∷ decimal number ∷ codes " column " ∷ decimal column ∷ codes ": " ∷ table_name what ∷ [])
 fault_line ShelfFault = line (codes "shelf failed" ∷ [])
+fault_line (DriveFault None) = line (codes "rack failed" ∷ [])
+fault_line (DriveFault (Some d)) = line (codes "drive " ∷ decimal d ∷ codes " failed" ∷ [])
+fault_line (Bad bad) = line (codes "bad page: file " ∷ decimal bad.file ∷ codes " page " ∷ decimal bad.page ∷ codes " rule " ∷ decimal bad.rule ∷ [])
 fault_line SinkFault = line (codes "output failed" ∷ [])
 fault_line NoMemory = line (codes "no memory" ∷ [])
+fault_line (DriveFull d needs capacity) = line (codes "drive " ∷ decimal d ∷ codes " needs " ∷ decimal needs ∷ codes " pages and has " ∷ decimal capacity ∷ [])
 fault_line NotBuilt = line (codes "folds and into are not built yet" ∷ [])
 
 -- a piece of a line
@@ -91,6 +95,9 @@ number_of Done = 0
 number_of Usage = 1
 number_of (Refused r) = 2
 number_of ShelfFault = 3
+number_of (DriveFault d) = 4
+number_of (Bad bad) = 5
 number_of SinkFault = 6
 number_of NoMemory = 7
+number_of (DriveFull d needs capacity) = 8
 number_of NotBuilt = 9

@@ -9,13 +9,15 @@ use Rattle.catalog_load.specs.declared.fault.LoadErr.{LoadErr}
 use Rattle.catalog_load.specs.declared.fault.LoadErr.TheVariants as load_err
 use Rattle.xp_outside.specs.Outside.{Rose}
 use Rattle.xprs_top.specs.declared.status.Status.{Status}
-use Rattle.xprs_top.specs.declared.status.Status.TheVariants.{Done, Usage, Refused, ShelfFault, SinkFault, NoMemory, NotBuilt}
+use Rattle.xprs_top.specs.declared.status.Status.TheVariants.{Done, Usage, Refused, ShelfFault, DriveFault, Bad, SinkFault, NoMemory, DriveFull, NotBuilt}
 use Rattle.xprs_top.specs.declared.status.Refused.TheVariants.{Missing, TooLong, Script, Table}
 use Rattle.xprs_top.specs.declared.script.ReadScript.{ReadScript}
 use Rattle.xprs_top.specs.declared.input.Checked.{Checked as Input}
+use Rattle.xprs_top.specs.declared.task.Task.{Task}
+use Rattle.xprs_top.specs.declared.task.Task.TheVariants.{Print, Answer}
 use Rattle.xprs_top.specs.declared.refusal.Naming.{Naming}
 use Rattle.xprs_top.specs.declared.refusal.Naming.TheVariants as naming
-use Rattle.xprs_top.specs.Readings.{Checked, Files, IsProgram}
+use Rattle.xprs_top.specs.Readings.{Checked, Files, IsProgram, Job, write, answer}
 
 -- a script that was read over a catalogue
 abbrev pub checked_of : List Relation → ReadScript → Checked
@@ -23,6 +25,10 @@ checked_of catalog read = record { catalog = catalog; program = program_of read.
 
 abbrev pub read_of : Input → Checked
 read_of input = checked_of input.catalog input.read
+
+abbrev pub job_of : Task → Job
+job_of (Print text) = write text.items
+job_of (Answer checked db) = answer (read_of checked) db
 
 -- a fact about the files, where the shelf tells them
 abbrev pub OnFiles : Option Files → (Files → Type 0) → Type 0
@@ -35,8 +41,11 @@ Shows told before now Done read = ⊥
 Shows told before now Usage read = ⊥
 Shows told before now (Refused r) read = OnFiles told (λ files. read files (Err (Refused r)))
 Shows told before now ShelfFault read = Rose before now
+Shows told before now (DriveFault d) read = ⊥
+Shows told before now (Bad bad) read = ⊥
 Shows told before now SinkFault read = ⊥
 Shows told before now NoMemory read = Unit {0}
+Shows told before now (DriveFull d needs capacity) read = ⊥
 Shows told before now NotBuilt read = OnFiles told (λ files. read files (Err NotBuilt))
 
 -- what was read is what the files are read as
@@ -50,8 +59,11 @@ Refuses Done read = ⊥
 Refuses Usage read = ⊥
 Refuses (Refused r) read = read (Err (Refused r))
 Refuses ShelfFault read = ⊥
+Refuses (DriveFault d) read = ⊥
+Refuses (Bad bad) read = ⊥
 Refuses SinkFault read = ⊥
 Refuses NoMemory read = Unit {0}
+Refuses (DriveFull d needs capacity) read = ⊥
 Refuses NotBuilt read = read (Err NotBuilt)
 
 -- what was found is what is read

@@ -3,4 +3,7 @@ pub mod Faults
 pub mod Words
 pub mod Readings
 pub mod Inputs
+pub mod Devices
 pub mod Runs
+pub mod Tasks
+pub mod Statuses

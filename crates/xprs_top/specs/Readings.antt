@@ -117,13 +117,23 @@ tables_of files (relation ∷ relations) =
 abbrev pub is_unbuilt : Program → Bool
 is_unbuilt program = list_any has_fold program.sentences || list_any is_kept program.sentences
 
-abbrev pub answered : Checked → List Table → Result (List ℕ) Status
-answered checked db = if is_unbuilt checked.program then Err NotBuilt else Ok (answers_bytes db checked.questions)
+-- what a run is to do: write this text, or answer the questions of a script over the tables of its catalogue
+pub data Job : Type 0 where
+  write : List ℕ → Job
+  answer : Checked → List Table → Job
 
-abbrev pub text_by : Files → Verb → Checked → Result (List ℕ) Status
-text_by files Check checked = Ok (script_text checked.program)
-text_by files Alone checked = bind (tables_of files checked.catalog) (answered checked)
+abbrev pub answering : Checked → List Table → Result Job Status
+answering checked db = if is_unbuilt checked.program then Err NotBuilt else Ok (answer checked db)
 
--- the text that is asked for: of `check` the script as it prints, of `alone` the answers, for which all tables are read
-abbrev pub IsText : Files → Request → Result (List ℕ) Status → Type 0
-IsText files request = Then (IsChecked files request) (λ checked. Just (text_by files request.verb checked))
+abbrev pub job_by : Files → Verb → Checked → Result Job Status
+job_by files Check checked = Ok (write (script_text checked.program))
+job_by files Alone checked = bind (tables_of files checked.catalog) (answering checked)
+
+-- the job that is asked for: of `check` to write the script as it prints, of `alone` to answer, for which all tables are read
+abbrev pub IsJob : Files → Request → Result Job Status → Type 0
+IsJob files request = Then (IsChecked files request) (λ checked. Just (job_by files request.verb checked))
+
+-- the text of a job
+abbrev pub job_text : Job → List ℕ
+job_text (write text) = text
+job_text (answer checked db) = answers_bytes db checked.questions

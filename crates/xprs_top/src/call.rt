@@ -1,36 +1,70 @@
-ghost use Rattle.std.specs.Prelude.{◌≡◌, ◌≤◌, None, Some, [], map, string_bytes};
-ghost use Rattle.xprs_top.specs.Runs.{Caused, Completes, Refuses, Tells, outside};
+ghost use Rattle.std.specs.Prelude.{◌≡◌, None, [], length, map, string_bytes};
+ghost use Rattle.xprs_top.specs.Devices.{IsCount};
+ghost use Rattle.xprs_top.specs.Runs.{AsksCheck, Caused, Completes, IsEarly, Poured, Refuses, Tells, outside};
 ghost use Rattle.xprs_top.specs.Words.{form_of};
 
-use crate::text::wanted_text;
+use crate::answering::{Made, make};
+use crate::task::read_task;
 use crate::words::read_words;
 use crate::{Outcome, Status, pour_fault};
 use std::alloc::Global;
 use xp_outside::{Rack, Shelf, Sink, pour};
 
+// A run that ended before drives were mounted.
+fn early<D>(alloc: Global, status: Status) -> Outcome<D>
+    ensures { (result.status ≡ status) × (result.drives.items ≡ []) }
+{
+    Outcome {
+        status,
+        drives: Vec::new(alloc),
+    }
+}
+
+// Writes the text that was made.
+fn poured<W: Sink, D>(out: &mut W, made: Made<D>) -> Outcome<D>
+    ensures status { Poured (W.written out.old) (W.written out.new) (W.faults out.old) (W.faults out.new) made.text result.status }
+    ensures drives { result.drives ≡ made.drives }
+{
+    let Made { text, drives } = made;
+    let status = match text {
+        Ok(text) => match pour(out, text.as_slice()) {
+            Ok(()) => Status::Done,
+            Err(_) => Status::SinkFault,
+        },
+        Err(status) => status,
+    };
+    Outcome { status, drives }
+}
+
 // A run without its line.
-fn run<S: Shelf, W: Sink>(alloc: Global, words: &[String], shelf: &mut S, out: &mut W) -> Status
+fn run<S: Shelf, K: Rack, W: Sink>(
+    alloc: Global,
+    words: &[String],
+    shelf: &mut S,
+    rack: &mut K,
+    out: &mut W,
+) -> Outcome<K::Drive>
     ensures files { S.files shelf.new ≡ S.files shelf.old }
-    ensures cause { Caused (form_of (map string_bytes words.now)) (outside (S.files shelf.old) (S.faults shelf.old) (S.faults shelf.new) (W.faults out.old) (W.faults out.new) (W.written out.old) (W.written out.new)) result }
-    ensures usage { form_of (map string_bytes words.now) ≡ None → result ≡ Status.Usage }
+    ensures cause { Caused K.Drive.Drive (form_of (map string_bytes words.now)) (outside (S.files shelf.old) (S.faults shelf.old) (S.faults shelf.new) (K.faults rack.old) (K.faults rack.new) (W.faults out.old) (W.faults out.new) (W.written out.old) (W.written out.new)) result.drives.items result.status }
+    ensures usage { form_of (map string_bytes words.now) ≡ None → result.status ≡ Status.Usage }
+    ensures check { AsksCheck (form_of (map string_bytes words.now)) → (rack.new ≡ rack.old) × (result.drives.items ≡ []) }
+    ensures early { IsEarly result.status → rack.new ≡ rack.old }
+    ensures count { IsCount (length result.drives.items) }
 {
     let Some(operands) = read_words(words) else {
-        return Status::Usage;
+        return early(alloc, Status::Usage);
     };
-    let text = match wanted_text(alloc, shelf, &operands) {
-        Ok(text) => text,
-        Err(status) => return status,
-    };
-    match pour(out, text.as_slice()) {
-        Ok(()) => Status::Done,
-        Err(_) => Status::SinkFault,
+    match read_task(alloc, shelf, &operands) {
+        Ok(task) => poured(out, make(alloc, rack, task)),
+        Err(status) => early(alloc, status),
     }
 }
 
 /// Does all that the program does, on one thread: reads the words, fetches and reads the catalogue and the script, and
-/// writes a text to `out` and the line of a fault to `err`. For `check` the text is the script in its printed form; for
-/// `alone` the tables are fetched and read in catalogue order, and the text is the answers of the statements. It always
-/// returns. A failure of `err` changes nothing else. No drive is mounted yet.
+/// writes a text to `out` and the line of a fault to `err`. For `check` the text is the script in its printed form. For
+/// `alone` the tables are fetched and read in catalogue order, laid on four drives and read back page by page, and the
+/// text is the answers of the statements over what was read. The drives are handed back wherever they were mounted. It
+/// always returns. A failure of `err` changes nothing else.
 pub fn answer_alone<S: Shelf, K: Rack, W: Sink, E: Sink>(
     alloc: Global,
     words: &[String],
@@ -39,26 +73,27 @@ pub fn answer_alone<S: Shelf, K: Rack, W: Sink, E: Sink>(
     out: &mut W,
     err: &mut E,
 ) -> Outcome<K::Drive>
-    // Done: the output got exactly the text that the words and the files mean. Each other status has its cause, and at
-    // each but Done and SinkFault the output got nothing.
-    ensures cause { Caused (form_of (map string_bytes words.now)) (outside (S.files shelf.old) (S.faults shelf.old) (S.faults shelf.new) (W.faults out.old) (W.faults out.new) (W.written out.old) (W.written out.new)) result.status }
+    // Done: where all drives tell, the output got exactly the text that the words and the files mean, and each drive that
+    // tells holds exactly its part of the tables. Each other status has its cause, and at each but Done and SinkFault the
+    // output got nothing.
+    ensures cause { Caused K.Drive.Drive (form_of (map string_bytes words.now)) (outside (S.files shelf.old) (S.faults shelf.old) (S.faults shelf.new) (K.faults rack.old) (K.faults rack.new) (W.faults out.old) (W.faults out.new) (W.written out.old) (W.written out.new)) result.drives.items result.status }
     // Usage comes wherever the words are no form; by the clause before it comes nowhere else.
     ensures usage { form_of (map string_bytes words.now) ≡ None → result.status ≡ Status.Usage }
     // A fault of told files is answered, unless the shelf fails or memory is wanting.
-    ensures refuses { Refuses (form_of (map string_bytes words.now)) (outside (S.files shelf.old) (S.faults shelf.old) (S.faults shelf.new) (W.faults out.old) (W.faults out.new) (W.written out.old) (W.written out.new)) result.status }
-    // Told files without a fault are answered, unless the shelf or the output fails or memory is wanting.
-    ensures complete { Completes (form_of (map string_bytes words.now)) (outside (S.files shelf.old) (S.faults shelf.old) (S.faults shelf.new) (W.faults out.old) (W.faults out.new) (W.written out.old) (W.written out.new)) result.status }
+    ensures refuses { Refuses (form_of (map string_bytes words.now)) (outside (S.files shelf.old) (S.faults shelf.old) (S.faults shelf.new) (K.faults rack.old) (K.faults rack.new) (W.faults out.old) (W.faults out.new) (W.written out.old) (W.written out.new)) result.status }
+    // Told files without a fault are answered over drives that tell and have room, unless the shelf, the rack, a drive or the
+    // output fails or memory is wanting.
+    ensures complete { Completes K.Drive.Drive (form_of (map string_bytes words.now)) (outside (S.files shelf.old) (S.faults shelf.old) (S.faults shelf.new) (K.faults rack.old) (K.faults rack.new) (W.faults out.old) (W.faults out.new) (W.written out.old) (W.written out.new)) result.drives.items result.status }
     // The second output got the status's line, or a front of it where that output failed.
     ensures line { Tells (E.written err.old) (E.written err.new) (E.faults err.old) (E.faults err.new) result.status }
-    // The files stay what they were, the rack is not touched, and no drives are handed back.
+    // The files stay what they were. The rack is touched neither for `check` nor before the input was accepted. All drives
+    // of a rack are handed back, or none were mounted.
     ensures files { S.files shelf.new ≡ S.files shelf.old }
-    ensures rack { rack.new ≡ rack.old }
-    ensures drives { result.drives.items ≡ [] }
+    ensures check { AsksCheck (form_of (map string_bytes words.now)) → (rack.new ≡ rack.old) × (result.drives.items ≡ []) }
+    ensures early { IsEarly result.status → rack.new ≡ rack.old }
+    ensures count { IsCount (length result.drives.items) }
 {
-    let status = run(alloc, words, shelf, out);
-    let _ = pour_fault(err, &status);
-    Outcome {
-        status,
-        drives: Vec::new(alloc),
-    }
+    let outcome = run(alloc, words, shelf, rack, out);
+    let _ = pour_fault(err, &outcome.status);
+    outcome
 }

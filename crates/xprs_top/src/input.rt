@@ -1,8 +1,9 @@
 //! What the files of a shelf are read as.
 ghost use Rattle.std.specs.Prelude.{◌≡◌, ◌≤◌, All, IfOk, length};
 ghost use Rattle.postquel.specs.Program.{program_of};
-ghost use Rattle.name_check.specs.Resolved.{AreTables, Answerable};
-ghost use Rattle.rel_meaning.specs.Meaning.{IsTable};
+ghost use Rattle.name_check.specs.Resolved.{Answerable};
+ghost use Rattle.catalog_load.specs.Limits.{HasLimits};
+ghost use Rattle.table_store.specs.Databases.{AreShort, IsTableOf, MayStore};
 ghost use Rattle.rows.specs.RowBytes.{IsRowOf};
 ghost use Rattle.xprs_top.specs.Inputs.{Told, checked_of, read_of};
 ghost use Rattle.xprs_top.specs.Readings.{IsCatalog, IsChecked, IsScript, Just, fetch_of, table_of, tables_of};
@@ -49,7 +50,7 @@ fn catalog_input<S: Shelf>(alloc: Global, shelf: &mut S, name: &[u8]) -> Result<
     ensures files { S.files shelf.new ≡ S.files shelf.old }
     ensures count { S.faults shelf.old ≤ S.faults shelf.new }
     ensures told { Told (S.files shelf.old) (S.faults shelf.old) (S.faults shelf.new) (λ c. c) result (λ files. IsCatalog files name.now) }
-    ensures few { IfOk result (λ catalog. All (λ r. length r.columns ≤ 32) catalog) }
+    ensures limits { IfOk result HasLimits }
 {
     let bytes = fetched(alloc, shelf, name)?;
     catalog_in(alloc, name, bytes.as_slice())
@@ -79,7 +80,7 @@ pub(crate) fn read_checked<S: Shelf>(
     ensures files { S.files shelf.new ≡ S.files shelf.old }
     ensures count { S.faults shelf.old ≤ S.faults shelf.new }
     ensures told { Told (S.files shelf.old) (S.faults shelf.old) (S.faults shelf.new) read_of result (λ files. IsChecked files (request_of operands.now)) }
-    ensures few { IfOk result (λ checked. All (λ r. length r.columns ≤ 32) checked.catalog) }
+    ensures limits { IfOk result (λ checked. HasLimits checked.catalog) }
     ensures answerable { IfOk result (λ checked. Answerable checked.catalog (program_of checked.read.script).sentences checked.read.queries) }
 {
     let catalog = catalog_input(alloc, shelf, operands.catalog)?;
@@ -94,6 +95,7 @@ fn table_input<S: Shelf>(alloc: Global, shelf: &mut S, relation: &Relation) -> R
     ensures count { S.faults shelf.old ≤ S.faults shelf.new }
     ensures told { Told (S.files shelf.old) (S.faults shelf.old) (S.faults shelf.new) (λ r. r) result (λ files. Just (table_of files relation.now)) }
     ensures rows { IfOk result (All (IsRowOf relation.now.columns)) }
+    ensures short { IfOk result (AreShort relation.now.columns) }
 {
     let name = relation.file.items();
     let bytes = fetched(alloc, shelf, name)?;
@@ -123,8 +125,7 @@ fn table<S: Shelf>(alloc: Global, shelf: &mut S, relation: &Relation) -> Result<
     ensures files { S.files shelf.new ≡ S.files shelf.old }
     ensures count { S.faults shelf.old ≤ S.faults shelf.new }
     ensures told { Told (S.files shelf.old) (S.faults shelf.old) (S.faults shelf.new) (λ t. t.rows) result (λ files. Just (table_of files relation.now)) }
-    ensures columns { IfOk result (λ t. t.columns ≡ relation.now.columns) }
-    ensures rows { IfOk result IsTable }
+    ensures table { IfOk result (IsTableOf relation.now) }
 {
     let rows = table_input(alloc, shelf, relation)?;
     Ok(Table {
@@ -139,11 +140,11 @@ pub(crate) fn read_tables<S: Shelf>(
     shelf: &mut S,
     catalog: &Catalog,
 ) -> Result<Database, Status>
-    requires { All (λ r. length r.columns ≤ 32) catalog.now }
+    requires { HasLimits catalog.now }
     ensures files { S.files shelf.new ≡ S.files shelf.old }
     ensures count { S.faults shelf.old ≤ S.faults shelf.new }
     ensures told { Told (S.files shelf.old) (S.faults shelf.old) (S.faults shelf.new) (λ db. db) result (λ files. Just (tables_of files catalog.now)) }
-    ensures tables { IfOk result (AreTables catalog.now) }
+    ensures stored { IfOk result (MayStore catalog.now) }
 {
     let mut tables = Vec::new(alloc);
     for relation in catalog.items() {

@@ -1,6 +1,7 @@
 //! The call that the program makes: from the words and the files to the text of the answer.
 #![tactic(auto)]
 
+mod answering;
 mod call;
 mod fault;
 mod input;
@@ -9,9 +10,9 @@ mod refusal;
 mod script;
 mod spelling;
 mod status;
+mod task;
 #[cfg(test)]
 mod tests;
-mod text;
 mod words;
 
 pub use call::answer_alone;

@@ -1,6 +1,7 @@
 //! What the bytes of a catalogue and of a script are read as.
 ghost use Rattle.std.specs.Prelude.{◌≡◌, ◌≤◌, All, IfOk, length, map};
 ghost use Rattle.postquel.specs.Program.{program_of};
+ghost use Rattle.catalog_load.specs.Limits.{HasLimits};
 ghost use Rattle.catalog_load.specs.Readings as catalog;
 ghost use Rattle.name_check.specs.Machine.{machine_steps};
 ghost use Rattle.name_check.specs.Resolved.{Answerable};
@@ -29,7 +30,7 @@ pub(crate) struct ReadScript {
 pub(crate) fn catalog_in(alloc: Global, name: &[u8], bytes: &[u8]) -> Result<Catalog, Status>
     requires { length bytes.now ≤ 67108864 }
     ensures value { Finds (λ c. c) result (InFile name.now (catalog.IsReading bytes.now)) }
-    ensures few { IfOk result (λ catalog. All (λ r. length r.columns ≤ 32) catalog) }
+    ensures limits { IfOk result HasLimits }
 {
     match read_catalog(alloc, bytes) {
         Ok(catalog) => Ok(catalog),

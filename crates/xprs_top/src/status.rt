@@ -1,8 +1,10 @@
 ghost use Rattle.std.specs.Prelude.{◌≡◌};
 ghost use Rattle.xprs_top.specs.declared.status.Status.TheVariants as status;
 ghost use Rattle.xprs_top.specs.Faults.{number_of};
+ghost use Rattle.xprs_top.specs.Statuses.{of_fetch, of_store};
 
 use catalog_load::TableWhat;
+use heap_page::{BadPage, FetchErr, StoreErr};
 use postquel::What;
 use rows::Text;
 use std::alloc::{AllocError, AllocFailed};
@@ -44,10 +46,20 @@ pub enum Status {
     Refused(Refused),
     /// A file could not be read.
     ShelfFault,
+    /// The drive of this number failed, or, without a number, no drives could be mounted.
+    DriveFault(Option<u32>),
+    /// A page that was read breaks a rule.
+    Bad(BadPage),
     /// The text could not be written whole.
     SinkFault,
     /// Memory was wanting.
     NoMemory,
+    /// The drive of this number has fewer pages than the tables need there.
+    DriveFull {
+        drive: u32,
+        needs: u64,
+        capacity: u32,
+    },
     /// The script has a fold or keeps an answer, which isn't built yet.
     NotBuilt,
 }
@@ -62,8 +74,11 @@ impl Status {
             Status::Usage => 1,
             Status::Refused(_) => 2,
             Status::ShelfFault => 3,
+            Status::DriveFault(_) => 4,
+            Status::Bad(_) => 5,
             Status::SinkFault => 6,
             Status::NoMemory => 7,
+            Status::DriveFull { .. } => 8,
             Status::NotBuilt => 9,
         }
     }
@@ -82,6 +97,38 @@ impl<T: Drop> From<AllocFailed<T>> for Status {
 
     fn from(_refused: AllocFailed<T>) -> Status {
         Status::NoMemory
+    }
+}
+
+impl From<StoreErr> for Status {
+    ghost from_gives = { λ e made. made ≡ of_store e };
+
+    fn from(error: StoreErr) -> Status {
+        match error {
+            StoreErr::DriveFault(drive) => Status::DriveFault(Some(drive)),
+            StoreErr::DriveFull {
+                drive,
+                needs,
+                capacity,
+            } => Status::DriveFull {
+                drive,
+                needs,
+                capacity,
+            },
+            StoreErr::NoMemory => Status::NoMemory,
+        }
+    }
+}
+
+impl From<FetchErr> for Status {
+    ghost from_gives = { λ e made. made ≡ of_fetch e };
+
+    fn from(error: FetchErr) -> Status {
+        match error {
+            FetchErr::DriveFault(drive) => Status::DriveFault(Some(drive)),
+            FetchErr::BadPage(bad) => Status::Bad(bad),
+            FetchErr::NoMemory => Status::NoMemory,
+        }
     }
 }
 

@@ -1,8 +1,12 @@
-use crate::answer_alone;
+ghost use Rattle.std.specs.Prelude.{◌<◌};
+
+use crate::{Outcome, answer_alone};
 use lists::Sequence;
 use std::alloc::{AllocError, Global};
 use std::test::Fail;
-use xp_outside::{FileList, MemRack, MemShelf, MemSink, NamedFile, NumberList};
+use xp_outside::{
+    FileList, MemDrive, MemRack, MemShelf, MemSink, NamedFile, NumberList, Rack, WildRack,
+};
 
 // The files: a name, and the bytes with `|` for a line feed and `^` for a carriage return.
 const FILES: [(&str, &str); 8] = [
@@ -66,18 +70,27 @@ cat relation A from \"a\" (x = int4, x = bool) @ retrieve (x = ) \\g -> 2 xprs: 
 cat relation P from \"nulls.csv\" (n = text null, a = int4 null, b = int4 null) @ retrieve unique (P.b) where P.n is null or P.b is null \\g -> 0 b|\"\"|
 cat relation Z from \"z.csv\" (n = text) @ retrieve (x = 1) \\g -> 2 xprs: z.csv: missing|";
 
-// The calls of the shelf and of the output that fail, and how many bytes the output takes at once.
+// The calls that fail of the shelf, the output, the rack and drive 0, how many bytes the output takes at once, and how
+// many pages a drive has.
 #[derive(Clone, Copy)]
 struct Devices<'a> {
     shelf_fails: &'a [u64],
     out_fails: &'a [u64],
+    mount_fails: &'a [u64],
+    read_fails: &'a [u64],
+    write_fails: &'a [u64],
     most: u32,
+    pages: u32,
 }
 
 const SOUND: Devices<'static> = Devices {
     shelf_fails: &[],
     out_fails: &[],
+    mount_fails: &[],
+    read_fails: &[],
+    write_fails: &[],
     most: 4096,
+    pages: 8,
 };
 
 // The bytes of a text with a line feed for each `|` and a carriage return for each `^`.
@@ -109,36 +122,92 @@ fn files(alloc: Global, others: &[(&str, &str)]) -> Result<FileList, AllocError>
     Ok(Sequence::from_vec(files))
 }
 
-// The number of the status, a space, and what was written to the output and then of the fault.
+// A run that has ended, and what it wrote.
+#[derive(Drop)]
+struct Ended<D> {
+    status: u8,
+    drives: Vec<D>,
+    out: MemSink,
+    err: MemSink,
+}
+
+fn call<K: Rack>(
+    alloc: Global,
+    words: &[String],
+    shelf: &mut MemShelf,
+    rack: &mut K,
+    out: MemSink,
+    err: MemSink,
+) -> Ended<K::Drive> {
+    let mut out = out;
+    let mut err = err;
+    let outcome = answer_alone(alloc, words, shelf, rack, &mut out, &mut err);
+    let Outcome { status, drives } = outcome;
+    Ended {
+        status: status.number(),
+        drives,
+        out,
+        err,
+    }
+}
+
+fn words_of(alloc: Global, words: &[&str]) -> Result<Vec<String>, AllocError> {
+    let mut given = Vec::new(alloc);
+    for word in words {
+        given.push(String::from_str(alloc, word)?)?;
+    }
+    Ok(given)
+}
+
+// The number of a status, a space, and what was written to the output and then of the fault.
+fn left(alloc: Global, status: u8, out: &MemSink, err: &MemSink) -> Result<Vec<u8>, AllocError> {
+    let mut left = Vec::new(alloc);
+    left.push(b'0' + status % 10)?;
+    left.push(b' ')?;
+    left.extend_from_slice(out.bytes())?;
+    left.extend_from_slice(err.bytes())?;
+    Ok(left)
+}
+
+// A run over drives in memory.
+fn run(
+    alloc: Global,
+    words: &[&str],
+    files: FileList,
+    devices: Devices<'_>,
+) -> Result<Ended<MemDrive>, AllocError> {
+    let given = words_of(alloc, words)?;
+    let mut shelf = MemShelf::new(files, numbers(alloc, devices.shelf_fails)?);
+    let mount_fails = numbers(alloc, devices.mount_fails)?;
+    let read_fails = numbers(alloc, devices.read_fails)?;
+    let write_fails = numbers(alloc, devices.write_fails)?;
+    let mut rack = MemRack::new(devices.pages, mount_fails, read_fails, write_fails);
+    let out = MemSink::new(alloc, devices.most, numbers(alloc, devices.out_fails)?);
+    let err = MemSink::new(alloc, 4096, Sequence::new(alloc));
+    Ok(call(alloc, given.as_slice(), &mut shelf, &mut rack, out, err))
+}
+
 fn answer(
     alloc: Global,
     words: &[&str],
     files: FileList,
     devices: Devices<'_>,
 ) -> Result<Vec<u8>, AllocError> {
-    let mut given = Vec::new(alloc);
-    for word in words {
-        given.push(String::from_str(alloc, word)?)?;
-    }
-    let mut shelf = MemShelf::new(files, numbers(alloc, devices.shelf_fails)?);
-    let none = Sequence::new(alloc);
-    let mut rack = MemRack::new(8, none, Sequence::new(alloc), Sequence::new(alloc));
-    let mut out = MemSink::new(alloc, devices.most, numbers(alloc, devices.out_fails)?);
-    let mut err = MemSink::new(alloc, 4096, Sequence::new(alloc));
-    let outcome = answer_alone(
-        alloc,
-        given.as_slice(),
-        &mut shelf,
-        &mut rack,
-        &mut out,
-        &mut err,
-    );
-    let mut left = Vec::new(alloc);
-    left.push(b'0' + outcome.status.number() % 10)?;
-    left.push(b' ')?;
-    left.extend_from_slice(out.bytes())?;
-    left.extend_from_slice(err.bytes())?;
-    Ok(left)
+    let ended = run(alloc, words, files, devices)?;
+    left(alloc, ended.status, &ended.out, &ended.err)
+}
+
+// The same over drives whose reads change one byte of every page.
+fn wild_answer(alloc: Global, files: FileList, byte: u32, mask: u8) -> Result<Vec<u8>, AllocError>
+    requires { byte < 8192 }
+{
+    let given = words_of(alloc, &["alone", "cat", "q"])?;
+    let mut shelf = MemShelf::new(files, Sequence::new(alloc));
+    let mut rack = WildRack::new(8, byte, mask);
+    let out = MemSink::new(alloc, 4096, Sequence::new(alloc));
+    let err = MemSink::new(alloc, 4096, Sequence::new(alloc));
+    let ended = call(alloc, given.as_slice(), &mut shelf, &mut rack, out, err);
+    left(alloc, ended.status, &ended.out, &ended.err)
 }
 
 #[test]
@@ -184,7 +253,7 @@ fn words_and_devices_have_their_statuses(rt: HostRuntime) -> Result<(), Fail> {
         let left = answer(alloc, words, files(alloc, &[])?, SOUND)?;
         assert_eq!(rt; left.as_slice(), lines(alloc, wanted)?.as_slice());
     }
-    let devices: [(Devices<'_>, &str); 4] = [
+    let devices: [(Devices<'_>, &str); 12] = [
         (
             Devices {
                 shelf_fails: &[1],
@@ -208,11 +277,128 @@ fn words_and_devices_have_their_statuses(rt: HostRuntime) -> Result<(), Fail> {
             },
             "6 name|Ann|Cixprs: output failed|",
         ),
+        (
+            Devices {
+                mount_fails: &[1],
+                ..SOUND
+            },
+            "4 xprs: rack failed|",
+        ),
+        (
+            Devices {
+                mount_fails: &[2],
+                ..SOUND
+            },
+            "0 name|Ann|Cid|",
+        ),
+        (
+            Devices {
+                write_fails: &[1],
+                ..SOUND
+            },
+            "4 xprs: drive 0 failed|",
+        ),
+        (
+            Devices {
+                write_fails: &[6],
+                ..SOUND
+            },
+            "0 name|Ann|Cid|",
+        ),
+        (
+            Devices {
+                read_fails: &[5],
+                ..SOUND
+            },
+            "4 xprs: drive 0 failed|",
+        ),
+        (
+            Devices {
+                read_fails: &[6],
+                ..SOUND
+            },
+            "0 name|Ann|Cid|",
+        ),
+        (
+            Devices { pages: 4, ..SOUND },
+            "8 xprs: drive 0 needs 5 pages and has 4|",
+        ),
+        (Devices { pages: 5, ..SOUND }, "0 name|Ann|Cid|"),
     ];
     for (devices, wanted) in devices {
         let left = answer(alloc, &["alone", "cat", "q"], files(alloc, &[])?, devices)?;
         assert_eq!(rt; left.as_slice(), lines(alloc, wanted)?.as_slice());
     }
+    Ok(())
+}
+
+// Two tables alone, of three rows each.
+const TWO: &str =
+    "relation EMP from \"emp.csv\" (name = text, dept = text, sal = int4)|relation DEPT from \"dept.csv\" (dname = text, floor = int4)|";
+
+#[test]
+fn drives_are_handed_back_with_their_counts_and_their_pages(rt: HostRuntime) -> Result<(), Fail> {
+    let alloc = rt.alloc();
+    let all: [u64; 8] = [1, 2, 3, 4, 5, 6, 7, 8];
+    let failing = Devices {
+        read_fails: &all,
+        ..SOUND
+    };
+    let small = Devices { pages: 1, ..SOUND };
+    let cases: [(Devices<'_>, &str, u64); 3] = [
+        (failing, "4 xprs: drive 0 failed|", 1),
+        (small, "8 xprs: drive 0 needs 2 pages and has 1|", 0),
+        (Devices { pages: 2, ..SOUND }, "0 name|Ann|Cid|", 0),
+    ];
+    for (devices, wanted, faults) in cases {
+        let files = files(alloc, &[("cat", TWO)])?;
+        let ended = run(alloc, &["alone", "cat", "q"], files, devices)?;
+        let left = left(alloc, ended.status, &ended.out, &ended.err)?;
+        assert_eq!(rt; left.as_slice(), lines(alloc, wanted)?.as_slice());
+        assert_eq!(rt; ended.drives.len(), 4);
+        assert_eq!(rt; ended.drives[0].faults(), faults);
+    }
+    let none = "relation EMP from \"none.csv\" (name = text, dept = text, sal = int4)|";
+    let header = "name,dept,sal|";
+    let files = files(alloc, &[("cat", none), ("none.csv", header)])?;
+    let ended = run(
+        alloc,
+        &["alone", "cat", "q"],
+        files,
+        Devices { pages: 0, ..SOUND },
+    )?;
+    let left = left(alloc, ended.status, &ended.out, &ended.err)?;
+    assert_eq!(rt; left.as_slice(), lines(alloc, "0 name|")?.as_slice());
+    Ok(())
+}
+
+#[test]
+fn a_page_that_breaks_a_rule_is_bad(rt: HostRuntime) -> Result<(), Fail> {
+    let alloc = rt.alloc();
+    let rules: [(u32, u8, &str); 10] = [
+        (0, 1, "1"),
+        (5, 1, "2"),
+        (18, 1, "3"),
+        (11, 1, "4"),
+        (15, 1, "5"),
+        (16, 128, "6"),
+        (17, 1, "7"),
+        (7, 1, "7"),
+        (32, 1, "8"),
+        (8179, 1, "9"),
+    ];
+    for (byte, mask, rule) in rules {
+        let mut wanted = lines(alloc, "5 xprs: bad page: file 0 page 0 rule ")?;
+        wanted.extend_from_slice(rule.as_bytes())?;
+        wanted.push(b'\n')?;
+        let left = wild_answer(alloc, files(alloc, &[("cat", TWO)])?, byte, mask)?;
+        assert_eq!(rt; left.as_slice(), wanted.as_slice());
+    }
+    let left = wild_answer(alloc, files(alloc, &[("cat", TWO)])?, 8191, 1)?;
+    assert_eq!(rt;
+        left.as_slice(),
+        lines(alloc, "0 name|Ann|Cid|")?.as_slice()
+    );
     Ok(())
 }
 

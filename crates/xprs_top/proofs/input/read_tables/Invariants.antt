@@ -1,7 +1,7 @@
 use Rattle.std.proofs.Common.{◌≡◌, ◌≤◌, take, Ok}
-use Rattle.name_check.specs.Resolved.{AreTables}
 use Rattle.xprs_top.specs.Inputs.{OnFiles}
 use Rattle.xprs_top.specs.Readings.{tables_of}
+use Rattle.xprs_top.proofs.Stored.{Loaded}
 use Rattle.xprs_top.proofs.input.read_tables.Given as goal
 
 -- the tables so far are those of the relations so far
@@ -10,5 +10,5 @@ invariant-loop-relation g l = record {
   files : g.S.Shelf.files l.shelf ≡ g.S.Shelf.files l.fn.shelf;
   count : g.S.Shelf.faults l.fn.shelf ≤ g.S.Shelf.faults l.shelf;
   told : OnFiles (g.S.Shelf.files l.fn.shelf) (λ files. tables_of files (take l.relation-index l.relation-items) ≡ Ok l.tables.items);
-  tables : AreTables (take l.relation-index l.relation-items) l.tables.items;
+  loaded : Loaded l.relation-items l.relation-index l.tables.items;
 }

@@ -1,4 +1,4 @@
--- Files are read as one text or have one first fault.
+-- Files give one job or have one first fault.
 use Rattle.std.proofs.Common.{◌≡◌, ℕ, List, map, sym, ap, subst, ◌∙◌, inl, inr, Ok, Err, Result}
 use Rattle.rows.specs.declared.plain.Relation.{Relation}
 use Rattle.postquel_tokens.specs.declared.fault.Spot.{Spot}
@@ -14,7 +14,7 @@ use Rattle.name_check.specs.Machine.{machine_steps}
 use Rattle.name_check.specs.Sentences.{heading_of, queries_of}
 use Rattle.xprs_top.specs.declared.status.Status.{Status}
 use Rattle.xprs_top.specs.Words.{Request}
-use Rattle.xprs_top.specs.Readings.{Files, InFile, IsCatalog, IsChecked, IsProgram, IsScript, IsText, Just, Then, check_of, checked_in, fetch_of, text_by, text_fault}
+use Rattle.xprs_top.specs.Readings.{Files, InFile, IsCatalog, IsChecked, IsProgram, IsScript, IsJob, Just, Then, check_of, checked_in, fetch_of, job_by, text_fault}
 
 abbrev pub IsOne : {A E : Type 0} → (Result A E → Type 0) → Type 0
 IsOne {A} {E} read = (a b : Result A E) → read a → read b → a ≡ b
@@ -83,5 +83,5 @@ one_catalog_in files name = one_then _ _ (one_just (fetch_of files name)) (λ by
 one_checked : (files : Files) (request : Request) → IsOne (IsChecked files request)
 one_checked files request = one_then _ _ (one_catalog_in files request.catalog) (λ relations. one_script files relations request.script)
 
-pub one_text : (files : Files) (request : Request) → IsOne (IsText files request)
-one_text files request = one_then _ _ (one_checked files request) (λ checked. one_just (text_by files request.verb checked))
+pub one_job : (files : Files) (request : Request) → IsOne (IsJob files request)
+one_job files request = one_then _ _ (one_checked files request) (λ checked. one_just (job_by files request.verb checked))

@@ -2,7 +2,7 @@ use Rattle.std.proofs.Common.{◌≡◌, ◌∙◌, ap, map, flat_map, ◌++◌,
 use Rattle.rel_meaning.specs.Expression.{question_of}
 use Rattle.xprs_top.specs.Answers.{answer_of, answers_bytes, next_answer}
 use Rattle.xprs_top.proofs.Joined.{if_ok_map, joined}
-use Rattle.xprs_top.proofs.text.answers.Goals as goal
+use Rattle.xprs_top.proofs.answering.answers.Goals as goal
 
 pub returns : goal.returns
 returns c =

@@ -1,0 +1,115 @@
+-- What drives show.
+use Rattle.std.proofs.Common.{◌≡◌, ◌≤◌, ◌<◌, ℕ, zero, suc, ◌+◌, min, Bool, true, false, List, [], ◌∷◌, length, map, take, ◌++◌, Option, Some, None, Result, Ok, Err, refl, sym, ap, subst, ◌∙◌, arith, inl, inr, IfErr, IfOk}
+use Rattle.std.specs.Prelude.{slice_get, is_some, IsTrue, All, ◌⊎◌}
+use Rattle.std.specs.Global.{Vec}
+use Rattle.xp_outside.specs.Drives.{IsFresh}
+use Rattle.xp_outside.specs.Outside.{Rose}
+use Rattle.xp_outside.specs.declared.drive.Drive.{Ghosts}
+use Rattle.heap_page.specs.declared.errors.BadPage.{BadPage}
+use Rattle.heap_page.specs.declared.errors.FetchErr.{FetchErr}
+use Rattle.heap_page.specs.declared.errors.FetchErr.TheVariants as fetch
+use Rattle.heap_page.specs.declared.errors.StoreErr.{StoreErr}
+use Rattle.heap_page.specs.declared.errors.StoreErr.TheVariants as store
+use Rattle.heap_page.specs.declared.map.FileMap.{FileMap}
+use Rattle.heap_page.specs.Stores.{AreRead, HaveRoom, IsFault}
+use Rattle.rows.specs.declared.plain.Relation.{Relation}
+use Rattle.rel_meaning.specs.declared.query.Table.{Table}
+use Rattle.table_store.specs.declared.database.Laid.{Laid}
+use Rattle.table_store.specs.declared.files.StoredTable.{StoredTable}
+use Rattle.table_store.specs.Databases.{AllFresh, AreKept, IsLaidOut, LayoutCause, MayStore, ReadCause, TellTables}
+use Rattle.table_store.specs.Images.{HoldImage, HoldsPart}
+use Rattle.table_store.specs.Readings.{AllTell}
+use Rattle.table_store.proofs.Filed.{all_at}
+use Rattle.table_store.proofs.Laying.{kept_reading, kept_trans}
+use Rattle.table_store.proofs.Pages.{get_below, one_at, room_read, there}
+use Rattle.xprs_top.specs.declared.status.Status.{Status}
+use Rattle.xprs_top.specs.Answers.{answers_bytes}
+use Rattle.xprs_top.specs.Devices.{Fit, HasFailed, Holds, IsUntold, Layout, Makes}
+use Rattle.xprs_top.specs.Readings.{Checked, answer}
+use Rattle.xprs_top.specs.Statuses.{of_fetch, of_store}
+use Rattle.xprs_top.proofs.Stored.{columns_agree}
+
+module _ {D : Type 0} (g : Ghosts D) where
+  -- all drives tell, or one doesn't
+  told_or_not : (p : Option (List (List ℕ))) → IsTrue (is_some p) ⊎ (p ≡ None)
+  told_or_not None = inr refl
+  told_or_not (Some pages) = inl refl
+
+  none_tell : AllTell g []
+  none_tell d drive e = absurd cc
+
+  more_tell : (x : D) (xs : List D) → IsTrue (is_some (g.pages x)) → AllTell g xs → AllTell g (x ∷ xs)
+  more_tell x xs h all zero drive e = let same : x ≡ drive = cc in subst (λ (y : D). IsTrue (is_some (g.pages y))) same h
+  more_tell x xs h all (suc d) drive e = all d drive e
+
+  pub tell_or_untold : (drives : List D) → AllTell g drives ⊎ IsUntold g drives
+  tell_or_untold [] = inl none_tell
+  tell_or_untold (x ∷ xs) = elim (told_or_not (g.pages x)) [
+    | inr none ↦ inr (record { number = 0; drive = x; here = refl; untold = none })
+    | inl some ↦ elim (tell_or_untold xs) [
+      | inl all ↦ inl (more_tell x xs some all)
+      | inr u ↦ inr (record { number = suc u.number; drive = u.drive; here = u.here; untold = u.untold })
+    ]
+  ]
+
+  pub untold : (drives : List D) → (AllTell g drives → ⊥) → IsUntold g drives
+  untold drives h = elim (tell_or_untold drives) [ inl all ↦ absurd (h all) | inr u ↦ u ]
+
+  pub tell_before : (olds news : List D) → AreKept g olds news → AllTell g news → AllTell g olds
+  tell_before olds news h all d old at =
+      let new = there news d (omega (arith, get_below olds d old at, h.len)) in
+      subst (λ (b : Bool). IsTrue b) (h.each d old new.0 at new.1).tells (all d new.0 new.1)
+
+  pub image_read : (map_of : FileMap) (tables : List StoredTable) (us bs : List D) → AreRead g us bs → HoldImage g map_of tables us → HoldImage g map_of tables bs
+  image_read map_of tables us bs h hold d b pages at told =
+      let a = there us d (omega (arith, get_below bs d b at, h.len)) in
+      let one = h.each d a.0 b a.1 at in
+      let is = hold d a.0 pages a.1 (sym one.told ∙ told) in
+      record { whole = is.whole ∙ sym one.size; stored = is.stored; others = λ address below out. is.others address (omega (arith, below, one.size)) out }
+
+  -- a drive that was new has failed
+  pub failed : (olds mids news : List D) (d : ℕ) → AllFresh g olds → AreKept g olds mids → IsFault g d mids news → HasFailed g d news
+  failed olds mids news d fresh kept fault = record { drive = fault.new; here = fault.is; some = omega (arith, fault.rose) }
+
+  -- ---- a database that is laid out
+
+  module _ (checked : Checked) (db : List Table) (before now : ℕ) where
+    pub lay_made : (olds mids : List D) (e : StoreErr) → length olds ≡ 4 → AllFresh g olds → AreKept g olds mids → LayoutCause g checked.catalog db olds mids e → Makes g (answer checked db) before now mids (Err (of_store e))
+    lay_made olds mids (store.DriveFault d) count fresh kept (tables, stored, lay) = (
+      record { count = kept.len ∙ count; layout = record { tables = tables; stored = stored; map_of = lay.0; is = rw (← count) lay.1 }; room = lay.2 },
+      record { drive = lay.3.new; here = lay.3.is; some = omega (arith, lay.3.rose) },
+    )
+    lay_made olds mids (store.DriveFull d needs capacity) count fresh kept (tables, stored, lay) =
+        record { count = kept.len ∙ count; layout = record { tables = tables; stored = stored; map_of = lay.0; is = rw (← count) lay.1 }; full = lay.2 }
+    lay_made olds mids store.NoMemory count fresh kept cause = tt
+
+    module _ (olds mids news : List D) (laid : Laid) (count : length olds ≡ 4) (fresh : AllFresh g olds) (kept : AreKept g olds mids) (out : IsLaidOut g checked.catalog db olds mids laid) (read : AreRead g mids news) where
+      abbrev pub is_fit : Fit g checked.catalog db news
+      is_fit = record {
+        count = read.len ∙ (kept.len ∙ count);
+        layout = record { tables = out.tables; stored = out.stored; map_of = laid.map; is = rw (← count) out.are.of };
+        room = room_read g laid.map mids news read out.room;
+      }
+
+      pub tell_mids : AllTell g news → TellTables g laid db mids
+      tell_mids all = out.tell (tell_before olds news (kept_trans g olds mids news kept (kept_reading g mids news read)) all)
+
+      abbrev NeverBad : FetchErr → Type 0
+      NeverBad e = (bad : BadPage) → TellTables g laid db mids → ◌≡◌ {A = FetchErr} e (fetch.BadPage bad) → ⊥
+
+      pub read_made : (e : FetchErr) → ReadCause g laid mids news e → NeverBad e → Makes g (answer checked db) before now news (Err (of_fetch e))
+      read_made (fetch.DriveFault d) cause never = (is_fit, record { drive = cause.new; here = cause.is; some = omega (arith, cause.rose) })
+      read_made (fetch.BadPage bad) cause never = (is_fit, untold news (λ all. never bad (tell_mids all) refl))
+      read_made fetch.NoMemory cause never = tt
+
+      pub text_made : (found : List Table) (text : Vec ℕ) → (TellTables g laid db mids → found ≡ db) → text.items ≡ answers_bytes found checked.questions → Makes g (answer checked db) before now news (Ok text)
+      text_made found text again is =
+          ((is_fit, image_read laid.map out.tables mids news read (out.image fresh)), λ all. is ∙ ap (λ (tables : List Table). answers_bytes tables checked.questions) (again (tell_mids all)))
+
+front : {X : Type 0} (xs rest : List X) → take (length xs) (xs ++ rest) ≡ xs
+front [] rest = refl
+front {X} (x ∷ xs) rest = ap (λ (ys : List X). x ∷ ys) (front xs rest)
+
+-- what is written back of a slice that is the whole
+pub whole_slice : {X : Type 0} (n : ℕ) (xs rest : List X) → n ≡ length xs → take n (xs ++ rest) ≡ xs
+whole_slice n xs rest e = rw e (front xs rest)

@@ -1,0 +1,86 @@
+-- What a job leaves on its drives, and what shows that it failed there.
+use Rattle.std.specs.Prelude.{◌≡◌, ◌⊎◌, ℕ, ◌<◌, List, [], length, slice_get, Option, Some, None, Result, Ok, Err, ⊤}
+use Rattle.std.specs.Global.{Vec}
+use Rattle.xp_outside.specs.Outside.{Rose}
+use Rattle.xp_outside.specs.declared.drive.Drive.{Ghosts}
+use Rattle.heap_page.specs.declared.map.FileMap.{FileMap}
+use Rattle.heap_page.specs.Stores.{HaveRoom, IsFull}
+use Rattle.rows.specs.declared.plain.Relation.{Relation}
+use Rattle.rel_meaning.specs.declared.query.Table.{Table}
+use Rattle.table_store.specs.declared.files.StoredTable.{StoredTable}
+use Rattle.table_store.specs.Databases.{AreStored, IsMapOf}
+use Rattle.table_store.specs.Images.{HoldImage}
+use Rattle.table_store.specs.Readings.{AllTell}
+use Rattle.xprs_top.specs.declared.status.Status.{Status}
+use Rattle.xprs_top.specs.declared.status.Status.TheVariants.{DriveFault, Bad, NoMemory, DriveFull}
+use Rattle.xprs_top.specs.Readings.{Job, write, answer, job_text}
+
+-- the tables as they are stored, and the places of their pages on so many drives
+pub record Layout (relations : List Relation) (db : List Table) (drives : ℕ) : Type 0 where
+  pub tables : List StoredTable
+  pub stored : AreStored relations db tables
+  pub map_of : FileMap
+  pub is : IsMapOf tables drives map_of
+
+-- there are no drives, or four
+abbrev pub IsCount : ℕ → Type 0
+IsCount n = (n ≡ 0) ⊎ (n ≡ 4)
+
+module _ {D : Type 0} (g : Ghosts D) where
+  -- a drive that doesn't tell what it holds
+  pub record IsUntold (drives : List D) : Type 0 where
+    pub number : ℕ
+    pub drive : D
+    pub here : slice_get drives number ≡ Some drive
+    pub untold : g.pages drive ≡ None
+
+  -- the drive of this number is there and has failed
+  pub record HasFailed (d : ℕ) (drives : List D) : Type 0 where
+    pub drive : D
+    pub here : slice_get drives d ≡ Some drive
+    pub some : 0 < g.faults drive
+
+  -- no drive has failed
+  abbrev pub NoneFailed : List D → Type 0
+  NoneFailed drives = (d : ℕ) → HasFailed d drives → ⊥
+
+  -- four drives, each with the pages that the tables need there
+  pub record Fit (relations : List Relation) (db : List Table) (drives : List D) : Type 0 where
+    pub count : length drives ≡ 4
+    pub layout : Layout relations db 4
+    pub room : HaveRoom g layout.map_of drives
+
+  -- this drive is the first one that has fewer pages than the tables need there
+  pub record IsOverfull (relations : List Relation) (db : List Table) (d needs capacity : ℕ) (drives : List D) : Type 0 where
+    pub count : length drives ≡ 4
+    pub layout : Layout relations db 4
+    pub full : IsFull g layout.map_of d needs capacity drives
+
+  -- the same of the tables of a job; only a job that answers has tables
+  abbrev pub Fits : Job → List D → Type 0
+  Fits (write text) drives = ⊥
+  Fits (answer checked db) drives = Fit checked.catalog db drives
+
+  abbrev pub Exceeds : Job → ℕ → ℕ → ℕ → List D → Type 0
+  Exceeds (write text) d needs capacity drives = ⊥
+  Exceeds (answer checked db) d needs capacity drives = IsOverfull checked.catalog db d needs capacity drives
+
+  -- by every layout of the job's tables each drive has the pages that are needed there
+  abbrev pub IsRoomy : Job → List D → Type 0
+  IsRoomy (write text) drives = ⊤
+  IsRoomy (answer checked db) drives = (layout : Layout checked.catalog db 4) → HaveRoom g layout.map_of drives
+
+  -- A job that only writes a text has no drives. A job that answers has four, and each one that tells holds exactly its part of the tables.
+  abbrev pub Holds : Job → List D → Type 0
+  Holds (write text) drives = drives ≡ []
+  Holds (answer checked db) drives = (fit : Fit checked.catalog db drives) × HoldImage g fit.layout.map_of fit.layout.tables drives
+
+  -- a text that was made is the job's, where all drives tell, and what shows why none was made
+  abbrev pub Makes : Job → ℕ → ℕ → List D → Result (Vec ℕ) Status → Type 0
+  Makes job before now drives (Ok text) = Holds job drives × (AllTell g drives → text.items ≡ job_text job)
+  Makes job before now drives (Err (DriveFault None)) = Rose before now × (drives ≡ [])
+  Makes job before now drives (Err (DriveFault (Some d))) = Fits job drives × HasFailed d drives
+  Makes job before now drives (Err (Bad bad)) = Fits job drives × IsUntold drives
+  Makes job before now drives (Err (DriveFull d needs capacity)) = Exceeds job d needs capacity drives
+  Makes job before now drives (Err NoMemory) = ⊤
+  Makes job before now drives (Err other) = ⊥
