@@ -69,11 +69,7 @@ fn heap_files(alloc: Global, tables: &[StoredTable]) -> Result<Vec<u32>, NoMemor
 }
 
 // Lays tables on drives.
-fn lay<D: Drive>(
-    alloc: Global,
-    drives: &mut [D],
-    tables: &[StoredTable],
-) -> Result<Laid, StoreErr>
+fn lay<D: Drive>(alloc: Global, drives: &mut [D], tables: &[StoredTable]) -> Result<Laid, StoreErr>
     requires some { 0 < length drives.old }
     requires count { length drives.old < 2 ^ 32 }
     requires few { length tables.now ≤ 16 }
