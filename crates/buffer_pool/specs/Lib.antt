@@ -1,0 +1,4 @@
+pub mod Counts
+pub mod Shards
+pub mod Told
+pub mod Used
