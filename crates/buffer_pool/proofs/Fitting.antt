@@ -1,7 +1,10 @@
 -- Shards that fit.
-use Rattle.std.proofs.Common.{◌≡◌, ℕ, List, Option, Result, sym, subst, ◌∙◌, arith}
+use Rattle.std.proofs.Common.{◌≡◌, ℕ, ◌≤◌, List, Option, Result, ap, sym, subst, ◌∙◌, arith}
 use Rattle.std.specs.Prelude.{IfOk, OnErr}
 use Rattle.std.specs.Arc.{arc_value}
+use Rattle.std.specs.List.{Contains}
+use Rattle.lru.proofs.Splits.{Contains-nil}
+use Rattle.buffer_pool.specs.Lone.{IsEmpty}
 use Rattle.std.specs.declared.sync.Arc.{Arc}
 use Rattle.std.specs.declared.alloc.Global.{Global}
 use Rattle.xp_outside.specs.declared.drive.Drive.{Ghosts}
@@ -30,4 +33,12 @@ fits_read g named address old cache new r fits is read covers told used same = r
   count = covers fits.count;
   cached = stay_result (g.pages named) address cache new.cache r (subst (λ (t : Option (List (List ℕ))). IfOk r (λ found. IsTold t address (arc_value found))) fits.drive.told told) used same
       (subst (λ (c : LruCache ℕ (Arc Page Global)). AreTold (g.pages named) c.entries) (sym is) fits.cached);
+}
+
+-- a shard that has read nothing fits its drive
+pub fits_new : {D : Type 0} (g : Ghosts D) (named : D) (frames : ℕ) (shard : Shard D g) → shard.drive ≡ named → IsEmpty frames shard → Fits named shard
+fits_new g named frames shard drive empty = record {
+  drive = record { size = ap g.size drive; count = subst (λ d. g.faults named ≤ g.faults d) (sym drive) (omega arith); told = ap g.pages drive };
+  count = let same : g.faults shard.drive ≡ g.faults named = ap g.faults drive in omega (arith, same, empty.0);
+  cached = λ e at. absurd (Contains-nil e (subst (λ (c : LruCache ℕ (Arc Page Global)). Contains c.entries e) empty.1 at));
 }

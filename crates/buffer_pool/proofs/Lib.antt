@@ -1,3 +1,6 @@
+pub mod Alone
 pub mod Cached
 pub mod Counting
+pub mod Fetching
 pub mod Fitting
+pub mod Lists
