@@ -1,5 +1,5 @@
 -- Shards that fit.
-use Rattle.std.proofs.Common.{◌≡◌, ℕ, ◌≤◌, List, Option, Result, ap, sym, subst, ◌∙◌, arith}
+use Rattle.std.proofs.Common.{◌≡◌, ℕ, ◌≤◌, List, [], Option, Result, ap, sym, subst, ◌∙◌, arith}
 use Rattle.std.specs.Prelude.{IfOk, OnErr}
 use Rattle.std.specs.Arc.{arc_value}
 use Rattle.std.specs.List.{Contains}
@@ -36,9 +36,12 @@ fits_read g named address old cache new r fits is read covers told used same = r
 }
 
 -- a shard that has read nothing fits its drive
-pub fits_new : {D : Type 0} (g : Ghosts D) (named : D) (frames : ℕ) (shard : Shard D g) → shard.drive ≡ named → IsEmpty frames shard → Fits named shard
-fits_new g named frames shard drive empty = record {
+pub fits_empty : {D : Type 0} (g : Ghosts D) (named : D) (shard : Shard D g) → shard.drive ≡ named → shard.counter ≡ 0 → shard.cache.entries ≡ [] → Fits named shard
+fits_empty g named shard drive zero empty = record {
   drive = record { size = ap g.size drive; count = subst (λ d. g.faults named ≤ g.faults d) (sym drive) (omega arith); told = ap g.pages drive };
-  count = let same : g.faults shard.drive ≡ g.faults named = ap g.faults drive in omega (arith, same, empty.0);
-  cached = λ e at. absurd (Contains-nil e (subst (λ (c : LruCache ℕ (Arc Page Global)). Contains c.entries e) empty.1 at));
+  count = let same : g.faults shard.drive ≡ g.faults named = ap g.faults drive in omega (arith, same, zero);
+  cached = λ e at. absurd (Contains-nil e (subst (λ l. Contains l e) empty at));
 }
+
+pub fits_new : {D : Type 0} (g : Ghosts D) (named : D) (frames : ℕ) (shard : Shard D g) → shard.drive ≡ named → IsEmpty frames shard → Fits named shard
+fits_new g named frames shard drive empty = fits_empty g named shard drive empty.0 (ap (λ (c : LruCache ℕ (Arc Page Global)). c.entries) empty.1)

@@ -4,3 +4,5 @@ pub mod Counting
 pub mod Fetching
 pub mod Fitting
 pub mod Lists
+pub mod Pairs
+pub mod Sharing

@@ -1,6 +1,6 @@
 -- Lists.
 use Rattle.std.proofs.Common.{◌≡◌, ℕ, zero, suc, ◌<◌, List, [], ◌∷◌, ◌++◌, length, take, Some, refl, sym, ap, arith}
-use Rattle.std.specs.Prelude.{slice_get, slice_index_or}
+use Rattle.std.specs.Prelude.{slice_get, slice_index_or, slice_set}
 use Rattle.std.specs.List.{remove}
 
 -- the first item and those that stay when it is removed
@@ -24,3 +24,9 @@ front_is [] ys zero e = refl
 front_is [] ys (suc n) e = absurd (omega arith)
 front_is (x ∷ xs) ys zero e = absurd (omega arith)
 front_is (x ∷ xs) ys (suc n) e = ap (λ l. x ∷ l) (front_is xs ys n (omega arith))
+
+-- what was written at a place
+pub set_at : {A : Type 0} (xs : List A) (k : ℕ) (x : A) → k < length xs → slice_get (slice_set xs k x) k ≡ Some x
+set_at [] k x lt = absurd (omega arith)
+set_at (z ∷ zs) zero x lt = refl
+set_at (z ∷ zs) (suc k) x lt = set_at zs k x (omega arith)

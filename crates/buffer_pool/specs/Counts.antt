@@ -1,5 +1,5 @@
 -- How a shard counts the reads that failed.
-use Rattle.std.specs.Prelude.{◌≡◌, ℕ, zero, suc, ◌+◌, ◌≤◌, min, List, [], ◌∷◌, ◌++◌}
+use Rattle.std.specs.Prelude.{◌≡◌, ℕ, zero, suc, ◌+◌, ◌≤◌, min, nat_le, if◌then◌else◌, List, [], ◌∷◌, ◌++◌}
 use Rattle.xp_outside.specs.Outside.{Rose}
 use Rattle.heap_page.specs.declared.errors.FetchErr.{FetchErr}
 use Rattle.heap_page.specs.declared.errors.FetchErr.TheVariants.{DriveFault, BadPage, NoMemory}
@@ -32,3 +32,7 @@ abbrev pub IsCounted : ℕ → ℕ → ℕ → ℕ → FetchErr → Type 0
 IsCounted faults faults_now counter counter_now (DriveFault d) = (d ≡ 0) × Rose faults faults_now × (counter_now ≡ next_count counter)
 IsCounted faults faults_now counter counter_now (BadPage bad) = counter_now ≡ counter
 IsCounted faults faults_now counter counter_now NoMemory = counter_now ≡ counter
+
+-- a count of which so many numbers were seen: at the counter's last value it stands at its own, 2 ^ 64 - 1
+abbrev pub count_of : ℕ → ℕ
+count_of seen = if nat_le LAST seen then 18446744073709551615 else seen

@@ -1,9 +1,11 @@
 //! The pages used last.
-ghost use Rattle.std.specs.Prelude.{◌≡◌, ◌<◌, [], None, Some, IfOk, IfErr, IfSome, OnOk, OnErr, MatchOption, MatchResult, nat_eq, option_map};
+ghost use Rattle.std.specs.Prelude.{◌≡◌, ◌<◌, [], None, Some, IfOk, IfErr, IfSome, OnOk, OnErr, MatchOption, MatchResult, nat_eq, option_map, vec_len};
 ghost use Rattle.std.specs.Arc.{arc_value};
+ghost use Rattle.std.specs.List.{All};
 ghost use Rattle.std.specs.Map.{lookup};
 ghost use Rattle.lru.specs.LruCache.{lru_cache};
 ghost use Rattle.heap_page.specs.Pages.{head_fault};
+ghost use Rattle.buffer_pool.specs.Lone.{IsEmptyCache};
 ghost use Rattle.buffer_pool.specs.Used.{IsAnswer, IsBad, IsCachedBad, IsUsed};
 
 use heap_page::{BadPage, FetchErr, FileKind, Page, check_head};
@@ -25,6 +27,19 @@ pub(crate) fn new_cache(alloc: Global, frames: u32) -> Result<Cache, NoMemory>
         unreachable!()
     };
     LruCache::new(alloc, frames)
+}
+
+// So many caches with so many frames each.
+pub(crate) fn caches(alloc: Global, count: u32, frames: u32) -> Result<Vec<Cache>, NoMemory>
+    requires { 0 < frames }
+    ensures count { IfOk result (λ made. vec_len made ≡ count) }
+    ensures empty { IfOk result (λ made. All (IsEmptyCache frames) made.items) }
+{
+    let mut made = Vec::new(alloc);
+    for _number in 0..count {
+        made.push(new_cache(alloc, frames)?)?;
+    }
+    Ok(made)
 }
 
 // The page that is cached at an address. The order stays.

@@ -4,10 +4,19 @@
 mod cache;
 mod lone;
 mod mounted;
+mod named;
+mod opening;
 mod place;
 mod reading;
+mod seat;
 mod shard;
+mod shared;
+mod source;
+mod turn;
 
 pub use lone::LonePool;
 pub use mounted::Mounted;
+pub use seat::PoolSeat;
 pub use shard::Shard;
+pub use shared::SharedPool;
+pub use source::PoolSource;

@@ -3,20 +3,20 @@ ghost use Rattle.std.specs.Prelude.{◌≡◌, ◌<◌, ◌≤◌, ℕ, [], Some
 ghost use Rattle.std.specs.List.{All};
 ghost use Rattle.heap_page.specs.Maps.{IsMap};
 ghost use Rattle.heap_page.specs.Stores.{AreRead, HaveRoom};
-ghost use Rattle.buffer_pool.specs.Fetched.{IsFetched, error_of};
+ghost use Rattle.buffer_pool.specs.Fetched.{IsFetched};
 ghost use Rattle.buffer_pool.specs.Images.{image_on};
 ghost use Rattle.buffer_pool.specs.Lone.{AreNew, AreOn, AreShards, IsEmptyCache, IsOn, count_at, drives_in, drives_of, frames_of, map_of};
 ghost use Rattle.buffer_pool.specs.Shards.{Fits};
 
-use crate::cache::{Cache, new_cache};
-use crate::mounted::{Mounted, copy_map};
-use crate::place::{Place, place_of};
+use crate::cache::{Cache, caches};
+use crate::mounted::{Mounted, copy_map, reserved};
+use crate::place::{Place, of_drive, place_of};
 use crate::shard::Shard;
 use heap_page::{FetchErr, FileMap, Page, PageSource};
 use std::alloc::Global;
 use std::snapshot::Snapshot;
 use std::sync::Arc;
-use xp_outside::{Drive, NoMemory};
+use xp_outside::Drive;
 
 /// A shard for each drive.
 pub struct LonePool<D: Drive> {
@@ -25,34 +25,6 @@ pub struct LonePool<D: Drive> {
     room: Vec<D>,
     ghost sound: { AreShards mounted shards.items },
     ghost space: { (vec_len shards ≤ vec_capacity room) × (room.items ≡ []) },
-}
-
-// So many caches with so many frames each.
-fn caches(alloc: Global, count: u32, frames: u32) -> Result<Vec<Cache>, NoMemory>
-    requires { 0 < frames }
-    ensures count { IfOk result (λ made. vec_len made ≡ count) }
-    ensures empty { IfOk result (λ made. All (IsEmptyCache frames) made.items) }
-{
-    let mut made = Vec::new(alloc);
-    for _number in 0..count {
-        made.push(new_cache(alloc, frames)?)?;
-    }
-    Ok(made)
-}
-
-// Two vectors with room for so many items each.
-pub(crate) fn reserved<A, B>(alloc: Global, count: usize) -> Result<(Vec<A>, Vec<B>), NoMemory>
-    ensures empty { IfOk result (λ made. (made.0.items ≡ []) × (made.1.items ≡ [])) }
-    ensures room { IfOk result (λ made. (vec_capacity made.0 ≡ count) × (vec_capacity made.1 ≡ count)) }
-{
-    let first = Vec::with_capacity(alloc, count)?;
-    match Vec::with_capacity(alloc, count) {
-        Ok(second) => Ok((first, second)),
-        Err(refused) => {
-            first.destroy_empty();
-            Err(refused)
-        }
-    }
 }
 
 // A shard for each drive, with a cache each, laid into the room of `shards`.
@@ -87,16 +59,6 @@ fn unload<D: Drive>(mut shards: Vec<Shard<D>>, mut room: Vec<D>) -> Vec<D>
     }
     shards.destroy_empty();
     room
-}
-
-// The error of a shard as that of the drive of this number.
-fn of_drive(error: FetchErr, drive: u32) -> FetchErr
-    ensures { result ≡ error_of drive error }
-{
-    match error {
-        FetchErr::DriveFault(_) => FetchErr::DriveFault(drive),
-        other => other,
-    }
 }
 
 // The page at a place, from the shard of its drive.

@@ -1,5 +1,5 @@
-//! What a pool was made of.
-ghost use Rattle.std.specs.Prelude.{◌≡◌, IfOk};
+//! What a pool is made of.
+ghost use Rattle.std.specs.Prelude.{◌≡◌, [], IfOk, vec_capacity};
 
 use heap_page::FileMap;
 use std::alloc::Global;
@@ -21,4 +21,19 @@ pub(crate) fn copy_map(alloc: Global, map: &FileMap) -> Result<FileMap, NoMemory
         files: Vec::from_slice(alloc, &map.files)?,
         drives: map.drives,
     })
+}
+
+// Two vectors with room for so many items each.
+pub(crate) fn reserved<A, B>(alloc: Global, count: usize) -> Result<(Vec<A>, Vec<B>), NoMemory>
+    ensures empty { IfOk result (λ made. (made.0.items ≡ []) × (made.1.items ≡ [])) }
+    ensures room { IfOk result (λ made. (vec_capacity made.0 ≡ count) × (vec_capacity made.1 ≡ count)) }
+{
+    let first = Vec::with_capacity(alloc, count)?;
+    match Vec::with_capacity(alloc, count) {
+        Ok(second) => Ok((first, second)),
+        Err(refused) => {
+            first.destroy_empty();
+            Err(refused)
+        }
+    }
 }

@@ -1,9 +1,10 @@
 //! Where a page of a file is fetched.
 ghost use Rattle.std.specs.Prelude.{◌≡◌};
 ghost use Rattle.heap_page.specs.Maps.{IsMap, HasPage};
+ghost use Rattle.buffer_pool.specs.Fetched.{error_of};
 ghost use Rattle.buffer_pool.specs.Places.{IsPlaced};
 
-use heap_page::{FileKind, FileMap};
+use heap_page::{FetchErr, FileKind, FileMap};
 
 /// The place of a page: the number of its drive, its address there, and the kind of its file.
 #[derive(Clone, Copy)]
@@ -24,5 +25,15 @@ pub(crate) fn place_of(files: &FileMap, file: u32, page: u32) -> Place
         drive,
         address,
         kind,
+    }
+}
+
+// The error of a shard as that of the drive of this number.
+pub(crate) fn of_drive(error: FetchErr, drive: u32) -> FetchErr
+    ensures { result ≡ error_of drive error }
+{
+    match error {
+        FetchErr::DriveFault(_) => FetchErr::DriveFault(drive),
+        other => other,
     }
 }

@@ -51,6 +51,14 @@ impl<D: Drive> Shard<D> {
         }
     }
 
+    // How many reads of the drive have failed here.
+    pub(crate) fn failed_reads(&self) -> u64
+        ensures value { result ≡ self.now.counter }
+        ensures short { result ≤ LAST }
+    {
+        self.counter
+    }
+
     // Reads a page and keeps it.
     fn load(
         &mut self,
