@@ -12,6 +12,8 @@ mod seat;
 mod shard;
 mod shared;
 mod source;
+#[cfg(test)]
+mod tests;
 mod turn;
 
 pub use lone::LonePool;
