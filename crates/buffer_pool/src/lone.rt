@@ -18,7 +18,7 @@ use std::snapshot::Snapshot;
 use std::sync::Arc;
 use xp_outside::Drive;
 
-/// A shard for each drive.
+/// The pages of files on drives, for one caller: a shard for each drive.
 pub struct LonePool<D: Drive> {
     shards: Vec<Shard<D>>,
     mounted: Mounted<D>,

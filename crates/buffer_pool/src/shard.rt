@@ -125,7 +125,7 @@ impl<D: Drive> Shard<D> {
         self.load(alloc, kind, file, page, address)
     }
 
-    /// The drive.
+    /// Gives up the cached pages, and hands out the drive.
     pub fn into_drive(self) -> D
         ensures { result ≡ self.drive }
     {

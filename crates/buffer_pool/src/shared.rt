@@ -16,7 +16,7 @@ use std::alloc::Global;
 use std::sync::Wait;
 use xp_outside::Drive;
 
-/// A lock round the shard of each drive.
+/// The pages of files on drives, for many threads: a lock round the shard of each drive.
 pub struct SharedPool<D: Drive> {
     pub(crate) locks: Vec<RunLock<Shard<D>>>,
     pub(crate) map: FileMap,
