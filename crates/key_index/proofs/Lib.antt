@@ -1,0 +1,5 @@
+mod Scanning
+mod Reached
+mod Levels
+mod Descents
+mod Numbers

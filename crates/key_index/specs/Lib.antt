@@ -1,0 +1,7 @@
+pub mod Entries
+pub mod Bytes
+pub mod Levels
+pub mod Files
+pub mod Readings
+pub mod Aims
+pub mod Searches
