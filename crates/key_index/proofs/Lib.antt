@@ -1,4 +1,5 @@
 mod Scanning
+mod Looks
 mod Reached
 mod Levels
 mod Descents

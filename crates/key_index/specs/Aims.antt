@@ -32,11 +32,15 @@ module _ {X : Type 0} where
   chosen p d [] = d
   chosen p d (x ∷ xs) = chosen p (if p x then x else d) xs
 
+-- the items up to a number
+abbrev pub upto_number : ℕ → Item → Bool
+upto_number n e = nat_le e.left n
+
 -- the items with a key below the one searched for, those with a key up to it, or those up to a number
 abbrev pub passes : Aim → Item → Bool
 passes (Below key) e = is_lt (value_cmp e.key key.now)
 passes (UpTo key) e = is_le (value_cmp e.key key.now)
-passes (Number n) e = nat_le e.left n
+passes (Number n) e = upto_number n e
 
 -- the item that is seen where its bytes lie
 abbrev pub seen_item : Entry → Item

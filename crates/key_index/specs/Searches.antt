@@ -1,5 +1,5 @@
 -- What a search in an index answers.
-use Rattle.std.specs.Prelude.{◌≡◌, ℕ, zero, suc, ◌+◌, ◌<◌, ◌≤◌, List, slice_get, Option, Some, None, ⊤, ◌⊎◌}
+use Rattle.std.specs.Prelude.{◌≡◌, ℕ, zero, suc, ◌+◌, ◌<◌, ◌≤◌, List, slice_get, Some, None, ⊤, ◌⊎◌}
 use Rattle.std.specs.List.{AllByRecursion}
 use Rattle.xp_outside.specs.Outside.{Rose}
 use Rattle.heap_page.specs.declared.errors.FetchErr.{FetchErr}
@@ -12,6 +12,7 @@ use Rattle.key_index.specs.Entries.{Item}
 use Rattle.key_index.specs.Readings.{page_fault, page_items}
 use Rattle.key_index.specs.Aims.{IsFront, chosen, count, first_of, passes}
 use Rattle.key_index.specs.declared.aim.Aim.{Aim}
+use Rattle.key_index.specs.declared.aim.Aim.TheVariants.{Number}
 
 -- an index that has entries has a page and a level
 abbrev pub IsUsable : KeyIndex → Type 0
@@ -54,9 +55,18 @@ abbrev pub Leads : KeyIndex → ℕ → Item → Type 0
 Leads index zero e = e.page < index.heap_pages
 Leads index (suc level) e = (e.page < index.pages) × (e.left ≤ index.entries)
 
+-- it leads out of them
 abbrev pub LeadsOut : KeyIndex → ℕ → Item → Type 0
 LeadsOut index zero e = index.heap_pages ≤ e.page
 LeadsOut index (suc level) e = (index.pages ≤ e.page) ⊎ (index.entries < e.left)
+
+-- the page one level down, and the entries left of it
+pub record IsNext (index : KeyIndex) (level number : ℕ) (aim : Aim) (bytes : List ℕ) (next : ℕ × ℕ) : Type 0 where
+  pub e : Item
+  pub uses : Uses index level number aim bytes e
+  pub page : next.0 ≡ e.page
+  pub left : next.1 ≡ e.left
+  pub within : (next.0 < index.pages) × (next.1 ≤ index.entries)
 
 -- The first broken rule of a page that is searched: one of rules 6 to 8, or 9, that the item used leads out of the index.
 abbrev pub BreaksAbove : KeyIndex → ℕ → ℕ → Aim → List ℕ → ℕ → Type 0
@@ -76,11 +86,20 @@ abbrev pub BreaksRank : KeyIndex → ℕ → Aim → List ℕ → ℕ → Type 0
 BreaksRank index number aim bytes rule =
     (page_fault index.key_type 0 number bytes ≡ Some rule) ⊎ ((rule ≡ 9) × ((rank : ℕ) × Ranks index number aim bytes rank × (index.entries < rank)))
 
+-- the entry of this number, and its heap page and slot
+pub record IsEntryAt (index : KeyIndex) (number wanted : ℕ) (bytes : List ℕ) (at : ℕ × ℕ) : Type 0 where
+  pub e : Item
+  pub uses : Uses index 0 number (Number wanted) bytes e
+  pub asked : e.left ≡ wanted
+  pub page : at.0 ≡ e.page
+  pub slot : at.1 ≡ e.slot
+  pub leads : at.0 < index.heap_pages
+
 -- rule 9 of a leaf that is asked for an entry: it isn't there, or its heap page isn't one
-abbrev pub BreaksEntry : KeyIndex → ℕ → ℕ → Aim → List ℕ → ℕ → Type 0
-BreaksEntry index number wanted aim bytes rule =
+abbrev pub BreaksEntry : KeyIndex → ℕ → ℕ → List ℕ → ℕ → Type 0
+BreaksEntry index number wanted bytes rule =
     (page_fault index.key_type 0 number bytes ≡ Some rule)
-    ⊎ ((rule ≡ 9) × ((e : Item) × Uses index 0 number aim bytes e × ((e.left ≡ wanted → ⊥) ⊎ LeadsOut index 0 e)))
+    ⊎ ((rule ≡ 9) × ((e : Item) × Uses index 0 number (Number wanted) bytes e × ((e.left ≡ wanted → ⊥) ⊎ LeadsOut index 0 e)))
 
 -- A page of the index at this level, as it is written: it breaks no rule, and each of its items leads on inside.
 pub record IsIndexPage (index : KeyIndex) (level number page : ℕ) (bytes : List ℕ) (items : List Item) : Type 0 where

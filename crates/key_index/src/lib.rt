@@ -2,6 +2,7 @@
 #![tactic(auto)]
 
 mod aim;
+mod descent;
 mod entry;
 mod field;
 mod key;

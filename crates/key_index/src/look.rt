@@ -1,8 +1,8 @@
 //! What a search takes from one page.
-ghost use Rattle.std.specs.Prelude.{◌≡◌, ◌+◌, ◌^◌, ◌<◌, ◌≤◌, ℕ, List, Ok, MatchResult, length};
-ghost use Rattle.key_index.specs.Aims.{IsFront, chosen, count, first_of, passes};
+ghost use Rattle.std.specs.Prelude.{◌≡◌, ◌+◌, ◌^◌, ◌<◌, ◌≤◌, ℕ, List, Ok, MatchOption, MatchResult, length};
+ghost use Rattle.key_index.specs.Aims.{IsFront, chosen, count, first_of, passes, upto_number};
 ghost use Rattle.key_index.specs.Entries.{Item};
-ghost use Rattle.key_index.specs.Searches.{BreaksAbove, BreaksEntry, BreaksRank, IsIndexPage, Leads, Ranks, Uses};
+ghost use Rattle.key_index.specs.Searches.{BreaksAbove, BreaksEntry, BreaksRank, IsEntryAt, IsIndexPage, IsNext, Ranks};
 
 use crate::aim::Aim;
 use crate::scan::scan_page;
@@ -19,7 +19,7 @@ pub(crate) fn look_above(
 ) -> Result<(u32, u32), u32>
     requires whole { length bytes.now ≡ 8192 }
     requires level { 0 < level }
-    ensures rules { MatchResult result (λ next. (e : Item) × Uses index.now level left aim.entry bytes.now e × Leads index.now level e × (next.0 ≡ e.page) × (next.1 ≡ e.left)) (BreaksAbove index.now level left aim.entry bytes.now) }
+    ensures rules { MatchResult result (IsNext index.now level left aim.entry bytes.now) (BreaksAbove index.now level left aim.entry bytes.now) }
     ensures told { (page : ℕ) (items : List Item) → IsIndexPage index.now level left page bytes.now items → IsFront (passes aim.entry) items →
         let e = chosen (passes aim.entry) (first_of items) items in MatchResult result (λ next. (next.0 ≡ e.page) × (next.1 ≡ e.left)) (λ rule. ⊥) }
 {
@@ -28,6 +28,16 @@ pub(crate) fn look_above(
         return Err(9);
     }
     Ok((step.entry.page, step.entry.left as u32))
+}
+
+// The number, where it is no greater than this one.
+fn at_most(number: u64, most: u32) -> Option<u32>
+    ensures { MatchOption result (most < number) (λ same. (same ≡ number) × (number ≤ most)) }
+{
+    if number > u64::from(most) {
+        return None;
+    }
+    Some(number as u32)
 }
 
 // How many entries a search counts, in this leaf and left of it. Rule 9 is that they are no more than the index has.
@@ -44,10 +54,10 @@ pub(crate) fn look_at_rank(
 {
     let step = scan_page(bytes, index.key_type, 0, u64::from(left), aim)?;
     let rank = u64::from(left) + u64::from(step.count);
-    if rank > u64::from(index.entries) {
-        return Err(9);
+    match at_most(rank, index.entries) {
+        Some(rank) => Ok(rank),
+        None => Err(9),
     }
-    Ok(rank as u32)
 }
 
 // The heap page and the slot of an entry of this leaf. Rule 9 is that the entry is there, and that the heap page is one.
@@ -58,6 +68,9 @@ pub(crate) fn look_at_entry(
     number: u32,
 ) -> Result<(u32, u32), u32>
     requires whole { length bytes.now ≡ 8192 }
+    ensures rules { MatchResult result (IsEntryAt index.now left number bytes.now) (BreaksEntry index.now left number bytes.now) }
+    ensures told { (page : ℕ) (items : List Item) → IsIndexPage index.now 0 left page bytes.now items → IsFront (upto_number number) items →
+        let e = chosen (upto_number number) (first_of items) items in e.left ≡ number → MatchResult result (λ at. (at.0 ≡ e.page) × (at.1 ≡ e.slot)) (λ rule. ⊥) }
 {
     let step = scan_page(
         bytes,
