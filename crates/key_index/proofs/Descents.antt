@@ -107,6 +107,9 @@ module _ (p : Item → Bool) (keeps : (n : ℕ) (x : Item) → p (up n x) ≡ p 
     pub read_here : IsIndexPage index k (first_of (block_at p h.levels items k)).left (page_at p h.levels items k) (pages (page_at p h.levels items k)) (block_at p h.levels items k)
     read_here = h.reads k (place_at p h.levels items k) lt inside
 
+    pub front_at_block : IsFront p (block_at p h.levels items k)
+    front_at_block = front_block p (pages_at h.levels k) (place_at p h.levels items k) front_here
+
     -- the chosen entry of the page is the last of the level that passes
     pub chosen_here : chosen p (first_of (block_at p h.levels items k)) (block_at p h.levels items k) ≡ get_or (items_at 0 items h.levels k) (count p (items_at 0 items h.levels k) - 1) blank
     chosen_here =

@@ -172,11 +172,11 @@ module _ (p : Item → Bool) (keeps : (n : ℕ) (x : Item) → p (up n x) ≡ p 
       IsFront p (items_at base items levels k)
   front_at level base items levels zero h le front = front
   front_at level base items [] (suc k) h le front = tt
-  front_at level base items (b ∷ []) (suc zero) h le front = front_firsts base b (blocks_some level items b h.0) (subst (λ (xs : List Item). IsFront p xs) (sym h.0.same) front)
+  front_at level base items (b ∷ []) (suc zero) h le front = front_firsts p keeps base b (blocks_some level items b h.0) (subst (λ (xs : List Item). IsFront p xs) (sym h.0.same) front)
   front_at level base items (b ∷ []) (suc (suc k)) h le front = tt
   front_at level base items (b ∷ c ∷ more) (suc k) h le front =
       front_at (suc level) (base + length b) (firsts base b) (c ∷ more) k h.1.1 (omega arith)
-      (front_firsts base b (blocks_some level items b h.0) (subst (λ (xs : List Item). IsFront p xs) (sym h.0.same) front))
+      (front_firsts p keeps base b (blocks_some level items b h.0) (subst (λ (xs : List Item). IsFront p xs) (sym h.0.same) front))
 
 module _ (f : Item → ℕ) (keeps : (n : ℕ) (x : Item) → f (up n x) ≡ f x) where
   first_first : (base : ℕ) (bs : List (List Item)) (d : Item) → AreSome bs → 0 < length bs → f (get_or (firsts base bs) 0 d) ≡ f (get_or (joined bs) 0 d)

@@ -4,3 +4,5 @@ mod Reached
 mod Levels
 mod Descents
 mod Numbers
+mod Indexed
+mod Searches

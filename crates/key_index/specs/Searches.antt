@@ -1,5 +1,5 @@
 -- What a search in an index answers.
-use Rattle.std.specs.Prelude.{◌≡◌, ℕ, zero, suc, ◌+◌, ◌<◌, ◌≤◌, List, slice_get, Some, None, ⊤, ◌⊎◌}
+use Rattle.std.specs.Prelude.{◌≡◌, ℕ, zero, suc, ◌+◌, ◌-◌, ◌<◌, ◌≤◌, Bool, List, slice_get, slice_index_or, Some, None, ⊤, ◌⊎◌}
 use Rattle.std.specs.List.{AllByRecursion}
 use Rattle.xp_outside.specs.Outside.{Rose}
 use Rattle.heap_page.specs.declared.errors.FetchErr.{FetchErr}
@@ -8,7 +8,7 @@ use Rattle.heap_page.specs.declared.head.FileKind.TheVariants.{Index}
 use Rattle.heap_page.specs.declared.map.PageFile.{PageFile}
 use Rattle.heap_page.specs.Pages.{head_fault}
 use Rattle.rows.specs.declared.plain.KeyIndex.{KeyIndex}
-use Rattle.key_index.specs.Entries.{Item}
+use Rattle.key_index.specs.Entries.{Item, blank}
 use Rattle.key_index.specs.Readings.{page_fault, page_items}
 use Rattle.key_index.specs.Aims.{IsFront, chosen, count, first_of, passes}
 use Rattle.key_index.specs.declared.aim.Aim.{Aim}
@@ -108,3 +108,12 @@ pub record IsIndexPage (index : KeyIndex) (level number page : ℕ) (bytes : Lis
   pub rest : List ℕ
   pub holds : page_items index.key_type level number bytes ≡ Some (items, rest)
   pub leads : AllByRecursion (Leads index level) items
+
+-- The leaf that a search reaches: the entries counted are those left of it and those counted in it, and the last one counted in it is the
+-- last one of all, or it is the first leaf and no entry is counted.
+pub record IsLeafFor (index : KeyIndex) (pages : ℕ → List ℕ) (p : Item → Bool) (items : List Item) (at : ℕ × ℕ) : Type 0 where
+  pub leaf : List Item
+  pub stands : IsIndexPage index 0 at.1 at.0 (pages at.0) leaf
+  pub front : IsFront p leaf
+  pub counts : count p items ≡ at.1 + count p leaf
+  pub last : chosen p (first_of leaf) leaf ≡ slice_index_or items (count p items - 1) blank

@@ -4,8 +4,10 @@ ghost use Rattle.std.specs.Arc.{arc_value};
 ghost use Rattle.heap_page.specs.declared.head.FileKind.TheVariants.{Index};
 ghost use Rattle.heap_page.specs.Pages.{head_fault};
 ghost use Rattle.key_index.specs.Aims.{IsFront, chosen, count, first_of, passes, upto_number};
-ghost use Rattle.key_index.specs.Entries.{Item};
-ghost use Rattle.key_index.specs.Searches.{HasIndex, IsIndexPage, IsUsable, NotBad, SearchCause};
+ghost use Rattle.rows.specs.declared.plain.KeyEntry.{KeyEntry};
+ghost use Rattle.key_index.specs.Entries.{Item, items_of};
+ghost use Rattle.key_index.specs.Files.{HoldsIndex};
+ghost use Rattle.key_index.specs.Searches.{HasIndex, IsIndexPage, IsLeafFor, IsUsable, NotBad, SearchCause};
 
 use crate::aim::Aim;
 use crate::look::{look_above, look_at_entry, look_at_rank};
@@ -92,4 +94,43 @@ fn leaf_entry<P: PageSource>(alloc: Global, index: &KeyIndex, pages: &mut P, pag
             rule,
         })),
     }
+}
+
+// The leaf that a search reaches, and how many entries stand left of it.
+pub(crate) fn reach<P: PageSource>(alloc: Global, index: &KeyIndex, pages: &mut P, aim: Aim<'_>) -> Result<(u32, u32), FetchErr>
+    requires file { HasIndex (P.files (P.whole pages.old)) index.now }
+    requires some { (0 < index.now.pages) × (0 < index.now.height) }
+    ensures whole { P.whole pages.new ≡ P.whole pages.old }
+    ensures counts { (d : ℕ) → P.faults pages.old d ≤ P.faults pages.new d }
+    ensures within { IfOk result (λ at. at.0 < index.now.pages) }
+    ensures told { (f : ℕ → ℕ → List ℕ) (entries : List KeyEntry) → P.image (P.whole pages.old) ≡ Some f → HoldsIndex index.now (f index.now.file) entries → IsFront (passes aim.entry) (items_of entries) →
+        MatchResult result (IsLeafFor index.now (f index.now.file) (passes aim.entry) (items_of entries)) NotBad }
+    ensures err { IfErr result (SearchCause index.now (P.drives (P.whole pages.old)) (P.faults pages.old) (P.faults pages.new)) }
+{
+    let mut page = index.pages - 1;
+    let mut left = 0u32;
+    for level in (1..index.height).rev() {
+        let (next, start) = step_down(alloc, index, pages, page, level, left, aim)?;
+        page = next;
+        left = start;
+    }
+    Ok((page, left))
+}
+
+// How many entries are counted.
+pub(crate) fn rank<P: PageSource>(alloc: Global, index: &KeyIndex, pages: &mut P, aim: Aim<'_>) -> Result<u32, FetchErr>
+    requires file { HasIndex (P.files (P.whole pages.old)) index.now }
+    requires some { IsUsable index.now }
+    ensures whole { P.whole pages.new ≡ P.whole pages.old }
+    ensures counts { (d : ℕ) → P.faults pages.old d ≤ P.faults pages.new d }
+    ensures within { IfOk result (λ rank. rank ≤ index.now.entries) }
+    ensures told { (f : ℕ → ℕ → List ℕ) (entries : List KeyEntry) → P.image (P.whole pages.old) ≡ Some f → HoldsIndex index.now (f index.now.file) entries → IsFront (passes aim.entry) (items_of entries) →
+        MatchResult result (λ rank. rank ≡ count (passes aim.entry) (items_of entries)) NotBad }
+    ensures err { IfErr result (SearchCause index.now (P.drives (P.whole pages.old)) (P.faults pages.old) (P.faults pages.new)) }
+{
+    if index.entries == 0 {
+        return Ok(0);
+    }
+    let (page, left) = reach(alloc, index, pages, aim)?;
+    leaf_rank(alloc, index, pages, page, left, aim)
 }
