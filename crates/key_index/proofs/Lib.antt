@@ -6,3 +6,5 @@ mod Descents
 mod Numbers
 mod Indexed
 mod Searches
+mod Fronts
+mod Narrowings

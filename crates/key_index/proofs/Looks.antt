@@ -4,7 +4,7 @@ use Rattle.std.specs.Prelude.{slice_get, ◌⊎◌}
 use Rattle.std.specs.List.{AllByRecursion}
 use Rattle.rows.specs.declared.plain.KeyIndex.{KeyIndex}
 use Rattle.key_index.specs.declared.aim.Aim.{Aim}
-use Rattle.key_index.specs.declared.entry.Step.{Step}
+use Rattle.key_index.specs.declared.page_entry.Step.{Step}
 use Rattle.key_index.specs.Aims.{IsFront, Scans, chosen, count, first_of, passes, seen_item}
 use Rattle.key_index.specs.Entries.{Item}
 use Rattle.key_index.specs.Readings.{page_fault}

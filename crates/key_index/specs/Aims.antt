@@ -11,8 +11,8 @@ use Rattle.key_index.specs.Entries.{Item, blank}
 use Rattle.key_index.specs.Readings.{page_fault, page_items}
 use Rattle.key_index.specs.declared.aim.Aim.{Aim}
 use Rattle.key_index.specs.declared.aim.Aim.TheVariants.{Below, UpTo, Number}
-use Rattle.key_index.specs.declared.entry.Entry.{Entry}
-use Rattle.key_index.specs.declared.entry.Step.{Step}
+use Rattle.key_index.specs.declared.page_entry.Entry.{Entry}
+use Rattle.key_index.specs.declared.page_entry.Step.{Step}
 
 module _ {X : Type 0} where
   abbrev pub count : (X → Bool) → List X → ℕ

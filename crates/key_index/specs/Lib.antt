@@ -5,3 +5,4 @@ pub mod Files
 pub mod Readings
 pub mod Aims
 pub mod Searches
+pub mod Intervals

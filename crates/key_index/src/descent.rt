@@ -75,7 +75,7 @@ fn leaf_rank<P: PageSource>(alloc: Global, index: &KeyIndex, pages: &mut P, page
 }
 
 // The heap page and the slot of an entry of this leaf.
-fn leaf_entry<P: PageSource>(alloc: Global, index: &KeyIndex, pages: &mut P, page: u32, left: u32, number: u32) -> Result<(u32, u32), FetchErr>
+pub(crate) fn leaf_entry<P: PageSource>(alloc: Global, index: &KeyIndex, pages: &mut P, page: u32, left: u32, number: u32) -> Result<(u32, u32), FetchErr>
     requires file { HasIndex (P.files (P.whole pages.old)) index.now }
     requires page { page < index.now.pages }
     ensures whole { P.whole pages.new ≡ P.whole pages.old }

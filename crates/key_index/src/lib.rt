@@ -3,9 +3,13 @@
 
 mod aim;
 mod descent;
-mod entry;
+
 mod field;
 mod key;
 mod look;
+mod page_entry;
 mod reading;
 mod scan;
+mod search;
+
+pub use search::{entry, interval, rank_high, rank_low};
