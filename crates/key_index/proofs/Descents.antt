@@ -1,6 +1,5 @@
 -- The descent of a search.
-use Rattle.std.proofs.Common.{◌≡◌, ℕ, zero, suc, ◌+◌, ◌-◌, ◌<◌, ◌≤◌, Bool, true, false, List, [], ◌∷◌, ◌++◌, length, get_or, take, refl, sym, ap, subst, ◌∙◌, arith}
-use Rattle.std.proofs.Common.{Option, Some, None}
+use Rattle.std.proofs.Common.{◌≡◌, ℕ, zero, suc, ◌+◌, ◌-◌, ◌<◌, Bool, true, false, List, [], ◌∷◌, ◌++◌, length, get_or, take, refl, sym, ap, subst, ◌∙◌, arith}
 use Rattle.std.proofs.lemmas.List.{length-append}
 use Rattle.lists.specs.Arranged.{one_if}
 use Rattle.heap_page.specs.Blocks.{AreBlocks, joined}
@@ -11,7 +10,7 @@ use Rattle.key_index.specs.Entries.{Item, blank}
 use Rattle.key_index.specs.Levels.{up, firsts, items_at, base_at, pages_at, AreLevels}
 use Rattle.key_index.specs.Searches.{IsIndexPage}
 use Rattle.key_index.proofs.Reached.{AreSome, begins, reached, front_right}
-use Rattle.key_index.proofs.Levels.{within, counts_firsts, length_firsts, over, last_reached, place_in, blocks_some, at_level, some_blocks, one_root, front_at, first_at, no_count, few, some_at}
+use Rattle.key_index.proofs.Levels.{within, counts_firsts, over, last_reached, place_in, blocks_some, at_level, some_blocks, one_root, front_at, first_at, no_count, some_at}
 
 -- the levels of an index over these items, whose pages stand so
 pub record IsIndex (index : KeyIndex) (pages : ℕ → List ℕ) (items : List Item) : Type 0 where

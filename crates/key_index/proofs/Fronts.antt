@@ -1,8 +1,7 @@
 -- The entries with a smaller key stand in front, and so do those up to a key and those up to a number.
-use Rattle.std.proofs.Common.{◌≡◌, ℕ, zero, suc, ◌+◌, ◌-◌, ◌<◌, ◌≤◌, Bool, true, false, cond, List, [], ◌∷◌, length, get_or, Some, refl, sym, ap, subst, ◌∙◌, arith, inl, inr}
+use Rattle.std.proofs.Common.{◌≡◌, ℕ, zero, suc, ◌+◌, ◌-◌, ◌<◌, Bool, true, false, cond, List, [], ◌∷◌, length, get_or, Some, refl, ap, subst, ◌∙◌, arith, inl, inr}
 use Rattle.std.specs.Prelude.{slice_get}
 use Rattle.std.specs.List.{AllByRecursion, filter}
-use Rattle.std.specs.Cmp.{IsTotalOrder}
 use Rattle.std.specs.declared.cmp.Ordering.{Ordering}
 use Rattle.std.specs.declared.cmp.Ordering.TheVariants.{Less, Equal, Greater}
 use Rattle.std.specs.Ordering.{is_gt, is_lt, is_le, ordering_reverse, ordering_then}
@@ -13,9 +12,8 @@ use Rattle.rows.specs.declared.plain.KeyEntry.{KeyEntry}
 use Rattle.rows.specs.declared.value.Value.{Value}
 use Rattle.rows.specs.Values.{value_cmp}
 use Rattle.rows.proofs.Orders.{value_total}
-use Rattle.key_index.specs.Aims.{IsFront, NonePass, chosen, count, first_of, upto_number}
+use Rattle.key_index.specs.Aims.{IsFront, NonePass, count, upto_number}
 use Rattle.key_index.specs.Entries.{Item, blank, entry_cmp, items_from, items_of, number_below, number_upto}
-use Rattle.key_index.specs.Searches.{IsLeafFor}
 use Rattle.key_index.proofs.Numbers.{Numbered, front_upto, count_upto}
 
 -- a test of keys that holds of each key before one of which it holds

@@ -1,7 +1,7 @@
 -- What a search reaches on each level.
 use Rattle.std.proofs.Common.{◌≡◌, ℕ, zero, suc, ◌+◌, ◌-◌, ◌<◌, ◌≤◌, Bool, true, false, List, [], ◌∷◌, ◌++◌, length, get_or, take, refl, sym, ap, subst, ◌∙◌, arith}
 use Rattle.std.specs.List.{AllByRecursion}
-use Rattle.std.proofs.lemmas.List.{length-append, append-nil}
+use Rattle.std.proofs.lemmas.List.{length-append}
 use Rattle.lists.specs.Arranged.{one_if}
 use Rattle.heap_page.specs.Blocks.{AreBlocks, joined, weight_of}
 use Rattle.key_index.specs.Aims.{count, NonePass, IsFront}

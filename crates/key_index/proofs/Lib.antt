@@ -4,6 +4,9 @@ mod Reached
 mod Levels
 mod Descents
 mod Numbers
+mod Keys
+mod Written
+mod Made
 mod Indexed
 mod Searches
 mod Fronts

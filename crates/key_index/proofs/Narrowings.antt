@@ -37,7 +37,7 @@ module _ {W : Type 0} (image : W → Option (ℕ → ℕ → List ℕ)) (index :
   pub narrows : (now next : W) (after later : ℕ → ℕ) (ends new : Interval) (b : Bound) (rest : List Bound) → Narrowing image index bounds old now before after ends (b ∷ rest) → next ≡ now → ((d : ℕ) → after d ≤ later d) →
       (new.from ≤ index.entries) × (new.upto ≤ index.entries) →
       ((f : ℕ → ℕ → List ℕ) (entries : List KeyEntry) → image now ≡ Some f → HoldsIndex index (f index.file) entries →
-        (new.from ≡ max ends.from (lower_end b.op b.value entries)) × (new.upto ≡ min ends.upto (upper_end b.op b.value entries))) →
+      (new.from ≡ max ends.from (lower_end b.op b.value entries)) × (new.upto ≡ min ends.upto (upper_end b.op b.value entries))) →
       Narrowing image index bounds old next before later new rest
   narrows now next after later ends new b rest n e counts within step = record {
     same = e ∙ n.same;

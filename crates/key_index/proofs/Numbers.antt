@@ -1,10 +1,10 @@
 -- Entries by their number.
-use Rattle.std.proofs.Common.{◌≡◌, ℕ, zero, suc, ◌+◌, ◌-◌, ◌<◌, ◌≤◌, Bool, true, false, List, [], ◌∷◌, length, get_or, refl, sym, ap, subst, ◌∙◌, arith, inl, inr}
+use Rattle.std.proofs.Common.{◌≡◌, ℕ, suc, ◌+◌, ◌-◌, ◌<◌, ◌≤◌, Bool, true, false, List, [], ◌∷◌, length, sym, ap, ◌∙◌, arith, inl, inr}
 use Rattle.std.specs.Prelude.{nat_le}
 use Rattle.std.proofs.lemmas.Bool.{cases_lt}
 use Rattle.lists.specs.Arranged.{one_if}
 use Rattle.key_index.specs.Aims.{count, NonePass, IsFront}
-use Rattle.key_index.specs.Entries.{Item, blank}
+use Rattle.key_index.specs.Entries.{Item}
 use Rattle.key_index.proofs.Levels.{no_count}
 
 abbrev pub Numbered : ℕ → List Item → Type 0

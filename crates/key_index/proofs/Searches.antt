@@ -1,7 +1,5 @@
 -- The search from the root to a leaf.
-use Rattle.std.proofs.Common.{◌≡◌, ℕ, zero, suc, ◌+◌, ◌-◌, ◌<◌, ◌≤◌, Bool, true, false, List, [], ◌∷◌, length, get_or, Option, Some, None, refl, sym, ap, subst, ◌∙◌, arith}
-use Rattle.std.specs.Prelude.{MatchResult, Result, Ok, Err, ⊤}
-use Rattle.xp_outside.specs.Outside.{Rose}
+use Rattle.std.proofs.Common.{◌≡◌, ℕ, suc, ◌+◌, ◌-◌, ◌<◌, ◌≤◌, Bool, List, [], ◌∷◌, length, Option, Some, refl, sym, ap, subst, ◌∙◌, arith}
 use Rattle.heap_page.specs.declared.errors.FetchErr.{FetchErr}
 use Rattle.heap_page.specs.declared.errors.FetchErr.TheVariants.{DriveFault, BadPage, NoMemory}
 use Rattle.rows.specs.declared.plain.KeyEntry.{KeyEntry}
@@ -9,7 +7,7 @@ use Rattle.rows.specs.declared.plain.KeyIndex.{KeyIndex}
 use Rattle.key_index.specs.declared.aim.Aim.{Aim}
 use Rattle.key_index.specs.declared.aim.Aim.TheVariants.{Below, UpTo, Number}
 use Rattle.key_index.specs.Aims.{IsFront, chosen, count, first_of, passes}
-use Rattle.key_index.specs.Entries.{Item, blank, items_from, items_of}
+use Rattle.key_index.specs.Entries.{Item, items_from, items_of}
 use Rattle.key_index.specs.Files.{HoldsIndex}
 use Rattle.key_index.specs.Levels.{up}
 use Rattle.key_index.specs.Searches.{IsIndexPage, IsLeafFor, NotBad, SearchCause}
@@ -62,7 +60,7 @@ module _ {W : Type 0} (image : W → Option (ℕ → ℕ → List ℕ)) (index :
 
   pub steps : (now next_now : W) (after later : ℕ → ℕ) (level page left next start : ℕ) → Descent image index old now before after aim level page left → 1 < level → next_now ≡ now → ((d : ℕ) → after d ≤ later d) → next < index.pages →
       ((f : ℕ → ℕ → List ℕ) (items : List Item) → image now ≡ Some f → IsIndexPage index (level - 1) left page (f index.file page) items → IsFront (passes aim) items →
-        (next ≡ (chosen (passes aim) (first_of items) items).page) × (start ≡ (chosen (passes aim) (first_of items) items).left)) →
+      (next ≡ (chosen (passes aim) (first_of items) items).page) × (start ≡ (chosen (passes aim) (first_of items) items).left)) →
       Descent image index old next_now before later aim (level - 1) next start
   steps now next_now after later level page left next start d lt e counts inside step = record {
     same = e ∙ d.same;
@@ -75,7 +73,7 @@ module _ {W : Type 0} (image : W → Option (ℕ → ℕ → List ℕ)) (index :
         let at = here now after level page left d lt f items is h front in
         let got = step f (block_at (passes aim) h.levels items (level - 1)) (ap image d.same ∙ is) at.0 at.1 in
         let go = subst (λ (j : ℕ). chosen (passes aim) (first_of (block_at (passes aim) h.levels items j)) (block_at (passes aim) h.levels items j) ≡ up (page_at (passes aim) h.levels items (level - 1 - 1)) (first_of (block_at (passes aim) h.levels items (level - 1 - 1)))) k
-          (down (passes aim) (keeps aim) index (f index.file) items h front (level - 1 - 1) (omega (arith, was.0, lt))) in
+        (down (passes aim) (keeps aim) index (f index.file) items h front (level - 1 - 1) (omega (arith, was.0, lt))) in
         (omega (arith, was.0), (got.0 ∙ ap (λ (x : Item). x.page) go, got.1 ∙ ap (λ (x : Item). x.left) go));
   }
 

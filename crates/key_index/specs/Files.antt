@@ -1,5 +1,5 @@
 -- The pages of an index file, and the numbers of an index.
-use Rattle.std.specs.Prelude.{◌≡◌, ℕ, suc, ◌+◌, List, [], ◌∷◌, ◌++◌, length, slice_get, Some}
+use Rattle.std.specs.Prelude.{◌≡◌, ℕ, suc, ◌+◌, ◌^◌, ◌<◌, List, [], ◌∷◌, ◌++◌, length, slice_get, Some}
 use Rattle.rows.specs.declared.field.ColType.{ColType}
 use Rattle.rows.specs.declared.plain.KeyEntry.{KeyEntry}
 use Rattle.rows.specs.declared.plain.KeyIndex.{KeyIndex}
@@ -34,6 +34,7 @@ index_of file key_type heap_pages entries = record {
 
 -- These pages are those of the index over some entries, and the index has their numbers.
 pub record HoldsIndex (index : KeyIndex) (pages : ℕ → List ℕ) (entries : List KeyEntry) : Type 0 where
+  pub small : (index.file < 2 ^ 32) × (index.heap_pages < 2 ^ 32)
   pub legal : AreEntries index.key_type index.heap_pages entries
   pub numbers : index ≡ index_of index.file index.key_type index.heap_pages entries
   pub told : (n : ℕ) (bytes : List ℕ) → slice_get (index_pages index.file entries) n ≡ Some bytes → pages n ≡ bytes

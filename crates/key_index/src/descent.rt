@@ -17,7 +17,12 @@ use std::alloc::Global;
 use std::sync::Arc;
 
 // A page of the index.
-fn fetch_page<P: PageSource>(alloc: Global, index: &KeyIndex, pages: &mut P, page: u32) -> Result<Arc<Page>, FetchErr>
+fn fetch_page<P: PageSource>(
+    alloc: Global,
+    index: &KeyIndex,
+    pages: &mut P,
+    page: u32,
+) -> Result<Arc<Page>, FetchErr>
     requires file { HasIndex (P.files (P.whole pages.old)) index.now }
     requires page { page < index.now.pages }
     ensures whole { P.whole pages.new ≡ P.whole pages.old }
@@ -30,7 +35,15 @@ fn fetch_page<P: PageSource>(alloc: Global, index: &KeyIndex, pages: &mut P, pag
 }
 
 // The page one level down that a search goes to, and how many entries stand left of it.
-fn step_down<P: PageSource>(alloc: Global, index: &KeyIndex, pages: &mut P, page: u32, level: u32, left: u32, aim: Aim<'_>) -> Result<(u32, u32), FetchErr>
+fn step_down<P: PageSource>(
+    alloc: Global,
+    index: &KeyIndex,
+    pages: &mut P,
+    page: u32,
+    level: u32,
+    left: u32,
+    aim: Aim<'_>,
+) -> Result<(u32, u32), FetchErr>
     requires file { HasIndex (P.files (P.whole pages.old)) index.now }
     requires page { page < index.now.pages }
     requires level { 0 < level }
@@ -53,7 +66,14 @@ fn step_down<P: PageSource>(alloc: Global, index: &KeyIndex, pages: &mut P, page
 }
 
 // How many entries are counted, in this leaf and left of it.
-fn leaf_rank<P: PageSource>(alloc: Global, index: &KeyIndex, pages: &mut P, page: u32, left: u32, aim: Aim<'_>) -> Result<u32, FetchErr>
+fn leaf_rank<P: PageSource>(
+    alloc: Global,
+    index: &KeyIndex,
+    pages: &mut P,
+    page: u32,
+    left: u32,
+    aim: Aim<'_>,
+) -> Result<u32, FetchErr>
     requires file { HasIndex (P.files (P.whole pages.old)) index.now }
     requires page { page < index.now.pages }
     ensures whole { P.whole pages.new ≡ P.whole pages.old }
@@ -75,7 +95,14 @@ fn leaf_rank<P: PageSource>(alloc: Global, index: &KeyIndex, pages: &mut P, page
 }
 
 // The heap page and the slot of an entry of this leaf.
-pub(crate) fn leaf_entry<P: PageSource>(alloc: Global, index: &KeyIndex, pages: &mut P, page: u32, left: u32, number: u32) -> Result<(u32, u32), FetchErr>
+pub(crate) fn leaf_entry<P: PageSource>(
+    alloc: Global,
+    index: &KeyIndex,
+    pages: &mut P,
+    page: u32,
+    left: u32,
+    number: u32,
+) -> Result<(u32, u32), FetchErr>
     requires file { HasIndex (P.files (P.whole pages.old)) index.now }
     requires page { page < index.now.pages }
     ensures whole { P.whole pages.new ≡ P.whole pages.old }
@@ -97,7 +124,12 @@ pub(crate) fn leaf_entry<P: PageSource>(alloc: Global, index: &KeyIndex, pages: 
 }
 
 // The leaf that a search reaches, and how many entries stand left of it.
-pub(crate) fn reach<P: PageSource>(alloc: Global, index: &KeyIndex, pages: &mut P, aim: Aim<'_>) -> Result<(u32, u32), FetchErr>
+pub(crate) fn reach<P: PageSource>(
+    alloc: Global,
+    index: &KeyIndex,
+    pages: &mut P,
+    aim: Aim<'_>,
+) -> Result<(u32, u32), FetchErr>
     requires file { HasIndex (P.files (P.whole pages.old)) index.now }
     requires some { (0 < index.now.pages) × (0 < index.now.height) }
     ensures whole { P.whole pages.new ≡ P.whole pages.old }
@@ -118,7 +150,12 @@ pub(crate) fn reach<P: PageSource>(alloc: Global, index: &KeyIndex, pages: &mut 
 }
 
 // How many entries are counted.
-pub(crate) fn rank<P: PageSource>(alloc: Global, index: &KeyIndex, pages: &mut P, aim: Aim<'_>) -> Result<u32, FetchErr>
+pub(crate) fn rank<P: PageSource>(
+    alloc: Global,
+    index: &KeyIndex,
+    pages: &mut P,
+    aim: Aim<'_>,
+) -> Result<u32, FetchErr>
     requires file { HasIndex (P.files (P.whole pages.old)) index.now }
     requires some { IsUsable index.now }
     ensures whole { P.whole pages.new ≡ P.whole pages.old }

@@ -3,7 +3,6 @@
 
 mod aim;
 mod descent;
-
 mod field;
 mod key;
 mod look;

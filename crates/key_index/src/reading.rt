@@ -6,9 +6,9 @@ ghost use Rattle.key_index.specs.Aims.{passes, seen_item, seen_item_front};
 ghost use Rattle.key_index.specs.Readings.{item_front, tail_front};
 
 use crate::aim::Aim;
-use crate::page_entry::Entry;
 use crate::field::{read_long, read_short};
 use crate::key::{compare_key, read_key};
+use crate::page_entry::Entry;
 use rows::{ColType, ValueView};
 
 // Whether an entry is counted.

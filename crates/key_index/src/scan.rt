@@ -5,8 +5,8 @@ ghost use Rattle.key_index.specs.Aims.{Scans};
 ghost use Rattle.key_index.specs.Readings.{page_fault};
 
 use crate::aim::Aim;
-use crate::page_entry::Step;
 use crate::field::read_short;
+use crate::page_entry::Step;
 use crate::reading::{is_counted, read_entry};
 use rows::ColType;
 
