@@ -8,6 +8,7 @@ mod Keys
 mod Written
 mod Made
 mod Indexed
+mod Nodes
 mod Searches
 mod Fronts
 mod Narrowings

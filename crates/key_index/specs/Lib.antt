@@ -6,3 +6,4 @@ pub mod Readings
 pub mod Aims
 pub mod Searches
 pub mod Intervals
+pub mod Nodes

@@ -4,11 +4,16 @@
 mod aim;
 mod descent;
 mod field;
+mod index_page;
 mod key;
+mod level;
 mod look;
+mod node;
 mod page_entry;
+mod plan;
 mod reading;
 mod scan;
 mod search;
 
+pub use plan::plan_index;
 pub use search::{entry, interval, rank_high, rank_low};
