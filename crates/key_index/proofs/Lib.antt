@@ -12,3 +12,6 @@ mod Nodes
 mod Searches
 mod Fronts
 mod Narrowings
+mod PageBytes
+mod Found
+mod Drives

@@ -245,7 +245,7 @@ sized es n level size more d lt size_is tail =
     let key : length (value_bytes (key_at es n.place)) ≡ length (value_bytes (get_or es n.place d).key) = ap (λ (v : Value). length (value_bytes v)) (key_got es n.place d lt) in
     omega (arith, weight_is level (node_item es n), key, size_is, tail)
 
-items_at : (es : List KeyEntry) (nodes : List Node) (i : ℕ) (d : Node) → i < length nodes → drop i (node_items es nodes) ≡ node_item es (get_or nodes i d) ∷ drop (i + 1) (node_items es nodes)
+pub items_at : (es : List KeyEntry) (nodes : List Node) (i : ℕ) (d : Node) → i < length nodes → drop i (node_items es nodes) ≡ node_item es (get_or nodes i d) ∷ drop (i + 1) (node_items es nodes)
 items_at es [] i d lt = absurd (omega arith)
 items_at es (x ∷ nodes) zero d lt = refl
 items_at es (x ∷ nodes) (suc i) d lt = let k : suc i + 1 ≡ suc (i + 1) = omega arith in rw k (items_at es nodes i d (omega arith))

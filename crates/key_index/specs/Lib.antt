@@ -7,3 +7,4 @@ pub mod Aims
 pub mod Searches
 pub mod Intervals
 pub mod Nodes
+pub mod Written

@@ -14,6 +14,9 @@ mod plan;
 mod reading;
 mod scan;
 mod search;
+mod storing;
+mod writing;
 
 pub use plan::plan_index;
 pub use search::{entry, interval, rank_high, rank_low};
+pub use writing::write_index;
