@@ -1,6 +1,6 @@
 -- Pages of an index on drives.
-use Rattle.std.proofs.Common.{◌≡◌, ℕ, zero, suc, ◌+◌, ◌*◌, ◌/◌, ◌-◌, ◌<◌, ◌≤◌, List, [], ◌∷◌, ◌++◌, length, get_or, take, drop, map, flat_map, ◌^◌, Option, Some, None, refl, sym, ap, ap₂, subst, ◌∙◌, arith, inl, inr, length-append, append_assoc}
-use Rattle.std.specs.Prelude.{slice_get, slice_range, ◌⊎◌, IfErr, OnOk, Result, Ok, Err}
+use Rattle.std.proofs.Common.{◌≡◌, ℕ, zero, suc, ◌+◌, ◌*◌, ◌/◌, ◌-◌, ◌<◌, ◌≤◌, List, [], ◌∷◌, ◌++◌, length, get_or, take, drop, map, flat_map, Option, Some, None, refl, sym, ap, ap₂, subst, ◌∙◌, arith, inl, inr, length-append}
+use Rattle.std.specs.Prelude.{slice_get, slice_range, ◌⊎◌, IfErr, Result, Ok, Err}
 use Rattle.std.specs.List.{All, AllByRecursion}
 use Rattle.std.proofs.lemmas.Bool.{cases_lt}
 use Rattle.std.proofs.lemmas.List.{take_at, length-map}
@@ -9,27 +9,31 @@ use Rattle.std.proofs.lemmas.Nat.{div-add-mod'}
 use Rattle.xp_outside.specs.Outside.{Rose}
 use Rattle.xp_outside.specs.declared.drive.Drive.{Ghosts}
 use Rattle.heap_page.specs.declared.map.FileMap.{FileMap}
-use Rattle.heap_page.specs.declared.map.PageFile.{PageFile}
 use Rattle.heap_page.specs.declared.errors.StoreErr.{StoreErr}
 use Rattle.heap_page.specs.declared.errors.StoreErr.TheVariants.{DriveFault, DriveFull, NoMemory}
-use Rattle.heap_page.specs.Blocks.{AreBlocks, joined, weight_of}
-use Rattle.heap_page.specs.Maps.{drive_of, address_of, base, pages_of_all, IsMap, IsPlace, HasPage, HasPages}
+use Rattle.heap_page.specs.Blocks.{joined, weight_of}
+use Rattle.heap_page.specs.Maps.{drive_of, address_of, base, IsPlace, HasPage, HasPages}
 use Rattle.heap_page.specs.Stores.{TellsAt, KeepsBut, IsWritten, AreWritten, HaveRoom, StoreCause}
 use Rattle.rows.specs.declared.plain.KeyEntry.{KeyEntry}
 use Rattle.key_index.specs.Bytes.{item_bytes, page_of, tail_bytes, weight}
 use Rattle.key_index.specs.Entries.{Item}
 use Rattle.key_index.specs.Files.{index_pages, level_pages, pages_of_levels}
+use Rattle.key_index.specs.Levels.{levels_from}
 use Rattle.key_index.specs.declared.node.Node.{Node}
 use Rattle.key_index.specs.declared.node.Level.{Level}
 use Rattle.key_index.specs.Nodes.{AreKeys, IsLevel, IsNode, level_blocks, node_item, node_items, starts_of}
 use Rattle.key_index.specs.Written.{AllStand, FirstStand}
 use Rattle.key_index.proofs.Found.{get_below}
-use Rattle.key_index.proofs.Indexed.{level_page, length-level}
-use Rattle.key_index.proofs.Nodes.{below_pages, blocks_are, levels_here, length-starts, root_pages, starts_count}
+use Rattle.key_index.proofs.Indexed.{level_page}
+use Rattle.key_index.proofs.Nodes.{blocks_are, levels_here, root_pages, some_blocks, starts_count}
 use Rattle.key_index.proofs.Written.{weight_is}
 
 rose_earlier : (a b c : ℕ) → a ≤ b → Rose b c → Rose a c
 rose_earlier a b c le h = omega (arith, le, h)
+
+pub if_err_map : {T E : Type 0} (r : Result T E) (P Q : E → Type 0) → ((e : E) → P e → Q e) → IfErr r P → IfErr r Q
+if_err_map (Ok x) P Q f h = tt
+if_err_map (Err e) P Q f h = f e h
 
 module _ {D : Type 0} (g : Ghosts D) where
   keeps_trans : (P Q R : ℕ → Type 0) (a b c : Option (List (List ℕ))) → ((x : ℕ) → P x → R x) → ((x : ℕ) → Q x → R x) → KeepsBut P a b → KeepsBut Q b c → KeepsBut R a c
@@ -189,7 +193,7 @@ page_here es level h keys file k lt =
     let l = levels_here es level h keys in
     let b = level_blocks es level.nodes.items level.number in
     let all : drop level.base (index_pages file es) ≡ level_pages file level.number level.base b ++ pages_of_levels file (suc level.number) (level.base + length b) l.0 =
-      h.pages file ∙ ap (pages_of_levels file level.number level.base) l.1 in
+    h.pages file ∙ ap (pages_of_levels file level.number level.base) l.1 in
     sym (get_drop level.base k (index_pages file es)) ∙ (ap (λ (xs : List (List ℕ)). slice_get xs k) all
     ∙ get_front (level_pages file level.number level.base b) _ k _ (level_page file level.number level.base k b (omega (arith, lt, starts_count es level h keys))))
 
@@ -211,11 +215,13 @@ end_at bs k lt = by (cases_lt (k + 1) (length bs)) where
   next [] i l = absurd (omega arith)
   next (c ∷ cs) zero l = omega (arith, length-append c [])
   next (c ∷ cs) (suc i) l = let e : suc i + 1 ≡ suc (i + 1) = omega arith in rw e (omega (arith, length-append c (joined (take (i + 1) cs)), length-append c (joined (take i cs)), next cs i (omega arith)))
+
   whole : (cs : List (List Item)) (i : ℕ) → length cs ≤ i → take i cs ≡ cs
   whole [] zero l = refl
   whole [] (suc i) l = refl
   whole (c ∷ cs) zero l = absurd (omega arith)
   whole (c ∷ cs) (suc i) l = ap (λ (xs : List (List Item)). c ∷ xs) (whole cs i (omega arith))
+
   by : (k + 1 < length bs) ⊎ (length bs ≤ k + 1) → get_or (starts_of 0 bs) (k + 1) (length (joined bs)) ≡ length (joined (take k bs)) + length (get_or bs k [])
   by (inl more) = omega (arith, start_at 0 bs (k + 1) (length (joined bs)) more, next bs k lt)
   by (inr all) = omega (arith, start_past 0 bs (k + 1) (length (joined bs)) all, next bs k lt, ap (λ (xs : List (List Item)). length (joined xs)) (whole bs (k + 1) all))
@@ -286,7 +292,7 @@ module _ (es : List KeyEntry) (level : Level) (h : IsLevel es level) (keys : Are
 
   upto_at : upto ≡ length (joined (take place (level_blocks es level.nodes.items level.number))) + length (get_or (level_blocks es level.nodes.items level.number) place [])
   upto_at = upto_is ∙ (ap (λ (ss : List ℕ). get_or ss (place + 1) (length level.nodes.items)) h.starts
-    ∙ (ap (λ (n : ℕ). get_or (starts_of 0 (level_blocks es level.nodes.items level.number)) (place + 1) n) (sym count) ∙ end_at (level_blocks es level.nodes.items level.number) place inside))
+      ∙ (ap (λ (n : ℕ). get_or (starts_of 0 (level_blocks es level.nodes.items level.number)) (place + 1) n) (sym count) ∙ end_at (level_blocks es level.nodes.items level.number) place inside))
 
   pub in_order : from ≤ upto
   in_order = omega (arith, from_at, upto_at)
@@ -318,9 +324,6 @@ module _ (es : List KeyEntry) (level : Level) (h : IsLevel es level) (keys : Are
   part_few =
       let len = length-map (slice_range level.nodes.items from upto) (node_item es) in
       omega (arith, len, heavy level.number (node_items es (slice_range level.nodes.items from upto)), ap (weight_of (weight level.number)) items_are, block_fits level.number place (level_blocks es level.nodes.items level.number) (blocks_are es level h keys).fit inside)
-
-  pub block_page : (file number lvl : ℕ) (page : List ℕ) → page ≡ page_of file number lvl (node_items es (slice_range level.nodes.items from upto)) → page ≡ page_of file number lvl (get_or (level_blocks es level.nodes.items level.number) place [])
-  block_page file number lvl page e = e ∙ ap (page_of file number lvl) items_are
 
 module _ {D : Type 0} (g : Ghosts D) where
   -- the levels below this one are written
@@ -354,7 +357,13 @@ module _ {D : Type 0} (g : Ghosts D) where
       len = w.len ∙ s.len;
     }
 
-    pub last_stage : (level : Level) (bs cs : List D) → AreKeys entries → Stage map file entries level olds bs → length level.starts.items ≤ 1 → FirstStand g map file (index_pages file entries) (level.base + length level.starts.items) cs → AllStand g map file (index_pages file entries) cs
-    last_stage level bs cs keys s le stands =
+    pub last_stage : (level : Level) (before cs : List D) → AreKeys entries → Stage map file entries level olds before → length level.starts.items ≤ 1 → FirstStand g map file (index_pages file entries) (level.base + length level.starts.items) cs → AllStand g map file (index_pages file entries) cs
+    last_stage level before cs keys s le stands =
         all_stand g map file (level.base + length level.starts.items) (index_pages file entries) cs
-        (omega (arith, root_pages entries level s.is_level keys le file, below_pages entries level s.is_level keys file, le)) stands
+        (omega (arith, root_pages entries level s.is_level keys le file, starts_count entries level s.is_level keys, some_blocks entries level s.is_level keys, le)) stands
+
+-- an index without entries has no page
+pub no_page : (file : ℕ) (es : List KeyEntry) (page : ℕ) (bytes : List ℕ) → length es ≡ 0 → slice_get (index_pages file es) page ≡ Some bytes → ⊥
+unfolding levels_from
+no_page file [] page bytes z e = absurd cc
+no_page file (x ∷ es) page bytes z e = absurd (omega (arith, z))

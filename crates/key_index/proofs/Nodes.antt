@@ -90,7 +90,7 @@ leaf_items front (e ∷ es) =
     let len : length (front ++ e ∷ []) ≡ suc (length front) = length-append front (e ∷ []) ∙ omega arith in
     let rest : node_items (front ++ e ∷ es) (leaf_nodes (suc (length front)) es) ≡ items_from (suc (length front)) es =
     subst (λ (xs : List KeyEntry). node_items xs (leaf_nodes (suc (length front)) es) ≡ items_from (suc (length front)) es) all
-      (subst (λ (n : ℕ). node_items ((front ++ e ∷ []) ++ es) (leaf_nodes n es) ≡ items_from n es) len (leaf_items (front ++ e ∷ []) es)) in
+    (subst (λ (n : ℕ). node_items ((front ++ e ∷ []) ++ es) (leaf_nodes n es) ≡ items_from n es) len (leaf_items (front ++ e ∷ []) es)) in
     ap₂ (λ (k : Value) (xs : List Item). record { key = k; page = e.page; slot = e.slot; left = length front } ∷ xs) key rest
 
 pub leaves_are : (es : List KeyEntry) → node_items es (leaf_nodes 0 es) ≡ items_of es
@@ -251,7 +251,7 @@ items_at es (x ∷ nodes) zero d lt = refl
 items_at es (x ∷ nodes) (suc i) d lt = let k : suc i + 1 ≡ suc (i + 1) = omega arith in rw k (items_at es nodes i d (omega arith))
 
 module _ (es : List KeyEntry) (nodes : List Node) (level : ℕ) (blocks : List (List Item)) (starts : List ℕ) (used place size : ℕ) (d : Node) (lt : place < length nodes)
-  (c : Cutting level blocks starts used place (drop place (node_items es nodes))) (e : size ≡ weight level (node_item es (get_or nodes place d))) where
+    (c : Cutting level blocks starts used place (drop place (node_items es nodes))) (e : size ≡ weight level (node_item es (get_or nodes place d))) where
   at_node : Cutting level blocks starts used place (node_item es (get_or nodes place d) ∷ drop (place + 1) (node_items es nodes))
   at_node = subst (Cutting level blocks starts used place) (items_at es nodes place d lt) c
 
@@ -364,15 +364,21 @@ module _ (es : List KeyEntry) (level : Level) (h : IsLevel es level) (keys : Are
 
   pub inside : All (λ start. start < length level.nodes.items) level.starts.items
   inside = subst (λ (ss : List ℕ). All (λ start. start < length level.nodes.items) ss) (sym h.starts)
-    (λ k d lt. omega (arith, length-nodes, starts_inside level.number (node_items es level.nodes.items) (level_blocks es level.nodes.items level.number) blocks_are k d lt))
+      (λ k d lt. omega (arith, length-nodes, starts_inside level.number (node_items es level.nodes.items) (level_blocks es level.nodes.items level.number) blocks_are k d lt))
 
   pub below_pages : (file : ℕ) → level.base + length level.starts.items ≤ length (index_pages file es)
   below_pages file =
       let l = levels_here in
       let c = h.count file in
       let p = ap (λ (ls : List (List (List Item))). length (pages_of_levels file level.number level.base ls)) l.1 in
-      omega (arith, c, p, length-append (level_pages file level.number level.base (level_blocks es level.nodes.items level.number)) (pages_of_levels file (suc level.number) (level.base + length (level_blocks es level.nodes.items level.number)) l.0),
-        length-level file level.number level.base (level_blocks es level.nodes.items level.number), starts_count)
+      omega (
+        arith,
+        c,
+        p,
+        length-append (level_pages file level.number level.base (level_blocks es level.nodes.items level.number)) (pages_of_levels file (suc level.number) (level.base + length (level_blocks es level.nodes.items level.number)) l.0),
+        length-level file level.number level.base (level_blocks es level.nodes.items level.number),
+        starts_count,
+      )
 
   pub below_height : level.number < length (levels_of es)
   below_height = omega (arith, h.height, ap length levels_here.1)
@@ -386,15 +392,15 @@ module _ (es : List KeyEntry) (level : Level) (h : IsLevel es level) (keys : Are
       let up_levels = levels_above lt in
       let rest = levels_from up_levels.0 (suc level.number) (level.base + length (level_blocks es level.nodes.items level.number)) (firsts level.base (level_blocks es level.nodes.items level.number)) in
       let items_are : node_items es nodes.items ≡ firsts level.base (level_blocks es level.nodes.items level.number) =
-        ap (λ (ns : List Node). node_items es ns) nodes_are ∙ (ap (λ (ss : List ℕ). node_items es (nodes_over level.base level.nodes.items ss)) h.starts ∙ over_are es level.nodes.items level.number level.base (level_blocks es level.nodes.items level.number) blocks_are) in
+      ap (λ (ns : List Node). node_items es ns) nodes_are ∙ (ap (λ (ss : List ℕ). node_items es (nodes_over level.base level.nodes.items ss)) h.starts ∙ over_are es level.nodes.items level.number level.base (level_blocks es level.nodes.items level.number) blocks_are) in
       let base_is : base ≡ level.base + length (level_blocks es level.nodes.items level.number) = omega (arith, b_is, starts_count) in
       let len : length nodes.items ≡ length level.starts.items = ap length nodes_are ∙ length-over level.base level.nodes.items level.starts.items in
       let same : levels_from up_levels.0 number base (node_items es nodes.items) ≡ rest = rw (n_is, base_is, items_are) refl in
       let height : length (levels_of es) ≡ suc level.number + length rest = omega (arith, h.height, ap length up_levels.2) in
       let pages : (file : ℕ) → pages_of_levels file level.number level.base (levels_from h.most level.number level.base (node_items es level.nodes.items)) ≡ level_pages file level.number level.base (level_blocks es level.nodes.items level.number) ++ pages_of_levels file (suc level.number) (level.base + length (level_blocks es level.nodes.items level.number)) rest =
-        λ file. ap (pages_of_levels file level.number level.base) up_levels.2 in
+      λ file. ap (pages_of_levels file level.number level.base) up_levels.2 in
       let same_pages : (file : ℕ) → pages_of_levels file number base (levels_from up_levels.0 number base (node_items es nodes.items)) ≡ pages_of_levels file (suc level.number) (level.base + length (level_blocks es level.nodes.items level.number)) rest =
-        λ file. rw (same, n_is, base_is) refl in
+      λ file. rw (same, n_is, base_is) refl in
       let size : (file : ℕ) → length (level_pages file level.number level.base (level_blocks es level.nodes.items level.number)) ≡ length (level_blocks es level.nodes.items level.number) = λ file. length-level file level.number level.base (level_blocks es level.nodes.items level.number) in
       record {
         most = up_levels.0;
@@ -405,7 +411,7 @@ module _ (es : List KeyEntry) (level : Level) (h : IsLevel es level) (keys : Are
         height = omega (arith, height, n_is, ap length same);
         count = λ file. omega (arith, h.count file, ap length (pages file), length-append (level_pages file level.number level.base (level_blocks es level.nodes.items level.number)) (pages_of_levels file (suc level.number) (level.base + length (level_blocks es level.nodes.items level.number)) rest), size file, ap length (same_pages file), base_is);
         pages = λ file. ap (λ (n : ℕ). drop n (index_pages file es)) (base_is ∙ ap (λ (n : ℕ). level.base + n) (sym (size file)))
-          ∙ (drop_more level.base (index_pages file es) (level_pages file level.number level.base (level_blocks es level.nodes.items level.number)) (pages_of_levels file (suc level.number) (level.base + length (level_blocks es level.nodes.items level.number)) rest) (h.pages file ∙ pages file) ∙ sym (same_pages file));
+            ∙ (drop_more level.base (index_pages file es) (level_pages file level.number level.base (level_blocks es level.nodes.items level.number)) (pages_of_levels file (suc level.number) (level.base + length (level_blocks es level.nodes.items level.number)) rest) (h.pages file ∙ pages file) ∙ sym (same_pages file));
       }
 
   pub some_entries : 0 < length es
@@ -423,7 +429,7 @@ module _ (es : List KeyEntry) (level : Level) (h : IsLevel es level) (keys : Are
   pub above_nodes : (nodes : List Node) → nodes ≡ nodes_over level.base level.nodes.items level.starts.items → All (IsNode es) nodes
   above_nodes nodes e = subst (λ (ns : List Node). All (IsNode es) ns) (sym e) (over_nodes es level.nodes.items level.base level.starts.items h.nodes inside)
 
-  some_blocks : 0 < length (level_blocks es level.nodes.items level.number)
+  pub some_blocks : 0 < length (level_blocks es level.nodes.items level.number)
   some_blocks = by (level_blocks es level.nodes.items level.number) blocks_are where
     by : (bs : List (List Item)) → AreBlocks (weight level.number) 8172 (node_items es level.nodes.items) bs → 0 < length bs
     by [] a = absurd (omega (arith, ap length a.same, length-nodes, h.some))

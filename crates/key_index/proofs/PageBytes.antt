@@ -1,9 +1,8 @@
 -- The bytes of a page, part by part.
-use Rattle.std.proofs.Common.{◌≡◌, ℕ, zero, suc, ◌+◌, ◌-◌, ◌<◌, ◌≤◌, List, [], ◌∷◌, ◌++◌, length, get_or, drop, flat_map, refl, sym, ap, subst, ◌∙◌, arith, append_assoc, length-append}
+use Rattle.std.proofs.Common.{◌≡◌, ℕ, zero, suc, ◌+◌, ◌-◌, ◌<◌, ◌≤◌, List, [], ◌∷◌, ◌++◌, length, get_or, drop, flat_map, refl, sym, ap, ◌∙◌, arith, append_assoc, length-append}
 use Rattle.std.specs.Int.{w16, w32, to_be_bytes}
 use Rattle.heap_page.specs.Pages.{zeros}
 use Rattle.rows.specs.declared.plain.KeyEntry.{KeyEntry}
-use Rattle.rows.specs.declared.value.Value.{Value}
 use Rattle.rows.specs.RowBytes.{value_bytes}
 use Rattle.key_index.specs.Bytes.{head_of, item_bytes, page_of, tail_bytes}
 use Rattle.key_index.specs.Entries.{Item}
@@ -50,7 +49,7 @@ zero_put count place old new all lt h e =
     ap (λ (xs : List ℕ). xs ++ zeros (count - (place + 1))) e ∙ (append_assoc old (0 ∷ []) (zeros (count - (place + 1))) ∙ (ap (λ (n : ℕ). old ++ zeros n) (sym k) ∙ h))
 
 module _ (file number level : ℕ) (items : List Item) (out headed filled whole : List ℕ) (len free : ℕ) (empty : out ≡ []) (head : headed ≡ out ++ head_of file number level (length items)) (body : filled ≡ headed ++ flat_map (item_bytes level) items)
-  (fits : length (flat_map (item_bytes level) items) ≤ 8172) (len_is : len ≡ length filled) where
+    (fits : length (flat_map (item_bytes level) items) ≤ 8172) (len_is : len ≡ length filled) where
   begun : headed ≡ head_of file number level (length items)
   begun = head ∙ ap (λ (xs : List ℕ). xs ++ head_of file number level (length items)) empty
 

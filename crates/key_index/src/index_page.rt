@@ -72,12 +72,7 @@ fn put_above_tail(out: &mut Vec<u8>, node: Node) -> Result<(), NoMemory>
 }
 
 // Adds an item.
-fn put_node(
-    out: &mut Vec<u8>,
-    entries: &[KeyEntry],
-    node: Node,
-    level: u32,
-) -> Result<(), NoMemory>
+fn put_node(out: &mut Vec<u8>, entries: &[KeyEntry], node: Node, level: u32) -> Result<(), NoMemory>
     requires keys { AreKeys entries.now }
     requires node { IsNode entries.now node }
     ensures { OnOk result (out.new.items ≡ out.old.items ++ item_bytes level (node_item entries.now node)) }

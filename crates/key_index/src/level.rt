@@ -101,7 +101,8 @@ pub(crate) fn first_level(alloc: Global, entries: &[KeyEntry]) -> Result<Level, 
     requires slots { All (λ e. e.slot < 65536) entries.now }
     requires some { 0 < length entries.now }
     requires few { length entries.now ≤ 1000000 }
-    ensures { IfOk result (IsLevel entries.now) }
+    ensures level { IfOk result (IsLevel entries.now) }
+    ensures first { IfOk result (λ level. level.base ≡ 0) }
 {
     let nodes = leaves(alloc, entries)?;
     let starts = cut(alloc, entries, &nodes, 0)?;
@@ -125,7 +126,7 @@ pub(crate) fn level_above(
     requires several { 1 < length level.now.starts.items }
     ensures above { IfOk result (IsLevel entries.now) }
     ensures fewer { IfOk result (λ found. length found.nodes.items < length level.now.nodes.items) }
-    ensures base { IfOk result (λ found. found.base ≡ level.now.base + length level.now.starts.items) }
+    ensures follows { IfOk result (λ found. found.base ≡ level.now.base + length level.now.starts.items) }
 {
     let base = level.base + level.starts.len() as u32;
     let number = level.number + 1;

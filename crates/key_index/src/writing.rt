@@ -1,5 +1,5 @@
 //! Writing the pages of an index.
-ghost use Rattle.std.specs.Prelude.{◌≡◌, ◌+◌, ◌^◌, ◌<◌, ◌≤◌, Some, OnOk, IfErr, IfOk, length, slice_get, slice_index_or, []};
+ghost use Rattle.std.specs.Prelude.{◌≡◌, ◌+◌, ◌^◌, ◌<◌, ◌≤◌, Some, OnOk, IfErr, IfOk, length, slice_get, slice_index_or, slice_range, []};
 ghost use Rattle.std.specs.List.{All};
 ghost use Rattle.heap_page.specs.Maps.{IsMap, IsPlace, HasPage, HasPages, drive_of, address_of};
 ghost use Rattle.heap_page.specs.Stores.{AreWritten, HaveRoom, StoreCause, TellsAt};
@@ -11,7 +11,7 @@ ghost use Rattle.key_index.specs.Written.{AllStand, FirstStand};
 
 use crate::index_page::page_with;
 use crate::level::{first_level, level_above};
-use crate::node::Level;
+use crate::node::{Level, Node};
 use crate::storing::{check_room, store};
 use heap_page::{FileMap, Page, StoreErr};
 use rows::{KeyEntry, KeyEntryList, KeyIndex};
@@ -27,6 +27,15 @@ fn end_of(level: &Level, place: usize) -> usize
         Some(start) => *start as usize,
         None => level.nodes.len(),
     }
+}
+
+// The items from one place up to another one.
+fn part(nodes: &[Node], from: usize, upto: usize) -> &[Node]
+    requires order { from ≤ upto }
+    requires within { upto ≤ length nodes.now }
+    ensures { result.now ≡ slice_range nodes.now from upto }
+{
+    &nodes[from..upto]
 }
 
 // One page of a level.
@@ -48,7 +57,14 @@ fn level_page(
     let nodes = level.nodes.as_slice();
     let from = starts[place] as usize;
     let upto = end_of(level, place);
-    page_with(alloc, entries, &nodes[from..upto], file, number, level.number)
+    page_with(
+        alloc,
+        entries,
+        part(nodes, from, upto),
+        file,
+        number,
+        level.number,
+    )
 }
 
 // Writes one page of a level.

@@ -8,7 +8,7 @@ use Rattle.key_index.proofs.level.cut.Goals.{then-used-size, else-used-size+in_o
 pub loop-place-init : goal.loop-place-init
 loop-place-init c =
     rw c.in_ok-starts.ensures.items (cut_starts c.args.level (level_blocks c.args.entries.now c.args.nodes.now c.args.level) (node_items c.args.entries.now c.args.nodes.now)
-      (laid_none c.args.level (node_items c.args.entries.now c.args.nodes.now) (omega (arith, c.requires.some, length-map c.args.nodes.now (node_item c.args.entries.now))) (small_items c.args.entries.now c.args.nodes.now c.requires.keys c.requires.nodes)))
+    (laid_none c.args.level (node_items c.args.entries.now c.args.nodes.now) (omega (arith, c.requires.some, length-map c.args.nodes.now (node_item c.args.entries.now))) (small_items c.args.entries.now c.args.nodes.now c.requires.keys c.requires.nodes)))
 
 pub loop-place-preserved : goal.loop-place-preserved
 loop-place-preserved c =

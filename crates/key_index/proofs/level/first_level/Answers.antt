@@ -14,5 +14,5 @@ cut-requires-clause-some c = omega (arith, ap length (c.deref.ensures.value ∙ 
 pub cut-requires-clause-few : goal.cut-requires-clause-few
 cut-requires-clause-few c = omega (arith, ap length (c.deref.ensures.value ∙ c.in_ok-nodes.ensures), length-leaves 0 c.args.entries.now, c.requires.few)
 
-pub returns : goal.returns
-returns c = first_is c.args.entries.now c.in_ok-nodes.nodes c.in_ok-starts.starts c.requires.some c.requires.slots c.in_ok-nodes.ensures (c.in_ok-starts.ensures ∙ ap (λ (ns : List Node). starts_of 0 (level_blocks c.args.entries.now ns 0)) c.deref.ensures.value)
+pub returns-clause-level : goal.returns-clause-level
+returns-clause-level c = first_is c.args.entries.now c.in_ok-nodes.nodes c.in_ok-starts.starts c.requires.some c.requires.slots c.in_ok-nodes.ensures (c.in_ok-starts.ensures ∙ ap (λ (ns : List Node). starts_of 0 (level_blocks c.args.entries.now ns 0)) c.deref.ensures.value)

@@ -1,4 +1,4 @@
-use Rattle.std.proofs.Common.{◌≡◌, ◌+◌, ◌<◌, ℕ, length, arith}
+use Rattle.std.proofs.Common.{◌+◌, length, arith}
 use Rattle.std.proofs.lemmas.Result.{err_from_is_err_and}
 use Rattle.heap_page.specs.Maps.{IsPlace}
 use Rattle.key_index.specs.Files.{index_pages}
@@ -22,7 +22,7 @@ pub returns-in_err-write_page-clause-written : goal.returns-in_err-write_page-cl
 returns-in_err-write_page-clause-written g c =
     wrote_page g.D.Drive c.args.map.now c.args.file (index_pages c.args.file c.args.entries.now) c.args.level.now.base c.args.drives.now c.loop-place.place c.loop-place.drives c.write_page.new.drives c.loop-place.invariant
     (has_page c.args.map.now c.args.file (length (index_pages c.args.file c.args.entries.now)) (c.args.level.now.base + c.loop-place.place) c.requires.pages
-      (omega (arith, c.loop-place-test.true, c.len-place-end.ensures, below_pages c.args.entries.now c.args.level.now c.requires.level c.requires.keys c.args.file)))
+    (omega (arith, c.loop-place-test.true, c.len-place-end.ensures, below_pages c.args.entries.now c.args.level.now c.requires.level c.requires.keys c.args.file)))
     c.write_page.ensures.written
 
 pub returns-in_err-write_page-clause-err : goal.returns-in_err-write_page-clause-err
@@ -34,6 +34,6 @@ pub loop-place-preserved : goal.loop-place-preserved
 loop-place-preserved g c =
     writes g.D.Drive c.args.map.now c.args.file (index_pages c.args.file c.args.entries.now) c.args.level.now.base c.args.drives.now c.loop-place.place _ c.loop-place.drives c.write_page.new.drives c.loop-place.invariant
     (has_page c.args.map.now c.args.file (length (index_pages c.args.file c.args.entries.now)) (c.args.level.now.base + c.loop-place.place) c.requires.pages
-      (omega (arith, c.loop-place-test.true, c.len-place-end.ensures, below_pages c.args.entries.now c.args.level.now c.requires.level c.requires.keys c.args.file)))
+    (omega (arith, c.loop-place-test.true, c.len-place-end.ensures, below_pages c.args.entries.now c.args.level.now c.requires.level c.requires.keys c.args.file)))
     (page_here c.args.entries.now c.args.level.now c.requires.level c.requires.keys c.args.file c.loop-place.place (omega (arith, c.loop-place-test.true, c.len-place-end.ensures)))
     c.write_page.ensures.written c.in_ok-write_page.ensures.ok
