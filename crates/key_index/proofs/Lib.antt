@@ -15,3 +15,5 @@ mod Narrowings
 mod PageBytes
 mod Found
 mod Drives
+mod LevelLaws
+mod Ordered

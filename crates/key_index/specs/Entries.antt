@@ -1,8 +1,8 @@
 -- The entries of an index: what they are, and their order.
-use Rattle.std.specs.Prelude.{ℕ, suc, ◌<◌, ◌≤◌, List, [], ◌∷◌, length}
+use Rattle.std.specs.Prelude.{◌≡◌, ℕ, suc, ◌-◌, ◌<◌, ◌≤◌, false, List, [], ◌∷◌, length, slice_get, Some}
 use Rattle.std.specs.List.{AllByRecursion, filter}
 use Rattle.std.specs.declared.cmp.Ordering.{Ordering}
-use Rattle.std.specs.Ordering.{is_lt, is_le, nat_cmp, ordering_then}
+use Rattle.std.specs.Ordering.{is_gt, is_lt, is_le, nat_cmp, ordering_then}
 use Rattle.lists.specs.Arranged.{Ascends}
 use Rattle.rows.specs.declared.field.ColType.{ColType}
 use Rattle.rows.specs.declared.plain.KeyEntry.{KeyEntry}
@@ -24,6 +24,10 @@ pub record AreEntries (key_type : ColType) (heap_pages : ℕ) (entries : List Ke
   pub few : length entries ≤ 1000000
   pub ordered : Ascends entry_cmp entries
   pub each : AllByRecursion (IsEntry key_type heap_pages) entries
+
+-- the entry at this place isn't below the one before it
+abbrev pub Follows : List KeyEntry → ℕ → Type 0
+Follows entries place = (a b : KeyEntry) → 0 < place → slice_get entries (place - 1) ≡ Some a → slice_get entries place ≡ Some b → is_gt (entry_cmp a b) ≡ false
 
 -- how many entries have a smaller key
 abbrev pub number_below : Value → List KeyEntry → ℕ

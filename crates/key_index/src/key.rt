@@ -9,7 +9,7 @@ ghost use Rattle.rows.specs.Values.{rank_of, value_cmp};
 use rows::{ColType, Value, ValueView};
 use std::cmp::Ordering;
 
-fn is_text(bytes: &[u8]) -> bool
+pub(crate) fn is_text(bytes: &[u8]) -> bool
     ensures { result ≡ is_utf8 bytes.now }
 {
     match str::from_utf8(bytes) {

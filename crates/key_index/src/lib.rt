@@ -3,9 +3,11 @@
 
 mod aim;
 mod descent;
+mod entry_order;
 mod field;
 mod index_page;
 mod key;
+mod laws;
 mod level;
 mod look;
 mod node;
@@ -15,8 +17,12 @@ mod reading;
 mod scan;
 mod search;
 mod storing;
+#[cfg(test)]
+mod tests;
 mod writing;
 
+pub use entry_order::{are_entries, compare_entries};
+pub use laws::index_laws;
 pub use plan::plan_index;
 pub use search::{entry, interval, rank_high, rank_low};
 pub use writing::write_index;

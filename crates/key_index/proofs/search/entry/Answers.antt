@@ -1,8 +1,6 @@
-use Rattle.std.proofs.Common.{◌≡◌, sym, ap, ◌∙◌}
-use Rattle.std.specs.Prelude.{MatchResult}
+use Rattle.std.proofs.Common.{ap, ◌∙◌}
 use Rattle.std.proofs.lemmas.Result.{err_from_is_err_and}
 use Rattle.key_index.specs.Aims.{chosen, first_of, upto_number}
-use Rattle.key_index.specs.Searches.{NotBad}
 use Rattle.key_index.proofs.Fronts.{chosen_entry, front_number}
 use Rattle.key_index.proofs.search.entry.Goals as goal
 

@@ -1,7 +1,6 @@
-use Rattle.std.proofs.Common.{◌≡◌, ◌+◌, List, drop, sym, ap, subst, ◌∙◌}
+use Rattle.std.proofs.Common.{◌+◌, List, drop, ap, subst, ◌∙◌}
 use Rattle.std.proofs.lemmas.List.{drop_all}
 use Rattle.rows.specs.declared.plain.Bound.{Bound}
-use Rattle.rows.specs.declared.plain.Interval.{Interval}
 use Rattle.key_index.specs.Intervals.{interval_of}
 use Rattle.key_index.proofs.Narrowings.{Narrowing, begins, narrows, found, bound_here}
 use Rattle.key_index.proofs.search.interval.Goals as goal
