@@ -1,8 +1,6 @@
-ghost use Rattle.std.specs.Prelude.{◌≡◌, ◌<◌, ◌≤◌, IfOk, length, slice_get, Some};
-ghost use Rattle.std.specs.Arc.{arc_value};
+ghost use Rattle.std.specs.Prelude.{◌≡◌, ◌∷◌, [], IfOk, IsTrue, length};
 ghost use Rattle.heap_page.specs.declared.head.FileKind.TheVariants.{Index};
 ghost use Rattle.heap_page.specs.Maps.{HasPages, IsMap};
-ghost use Rattle.heap_page.specs.Pages.{head_fault};
 ghost use Rattle.key_index.specs.Searches.{HasIndex, IsUsable};
 
 use crate::{are_entries, entry, interval, plan_index, rank_high, rank_low, write_index};
@@ -14,7 +12,7 @@ use rows::{Bound, BoundOp, ColType, Interval, KeyEntry, KeyEntryList, KeyIndex, 
 use std::alloc::Global;
 use std::sync::Arc;
 use std::test::Fail;
-use xp_outside::{MemDrive, NoMemory, PAGE};
+use xp_outside::{Drive, MemDrive, NoMemory, PAGE};
 
 // The pages of an index file. It tells nothing.
 #[derive(Drop)]
@@ -103,13 +101,28 @@ fn written(
     Ok(Some((index, source)))
 }
 
-// Whether a search can be made: the index is the file's, and has a page and a level where it has entries.
-fn fits(index: &KeyIndex, source: &PageList) -> bool
-    ensures { result ≡ true → (index.now.file ≡ 0) × (index.now.pages ≡ source.now.count) × IsUsable index.now }
+// Whether the index is that of the file.
+fn is_of_file(index: &KeyIndex, source: &PageList) -> bool
+    ensures { IsTrue result → HasIndex (record { kind = Index; pages = source.now.count } ∷ []) index.now }
 {
-    index.file == 0
-        && index.pages == source.count
-        && (index.entries == 0 || index.pages > 0 && index.height > 0)
+    if index.file != 0 {
+        return false;
+    }
+    if index.pages != source.count {
+        return false;
+    }
+    true
+}
+
+// Whether a search can be made: the index is that of the file, and has a page and a level where it has entries.
+fn fits(index: &KeyIndex, source: &PageList) -> bool
+    ensures file { IsTrue result → HasIndex (record { kind = Index; pages = source.now.count } ∷ []) index.now }
+    ensures some { IsTrue result → IsUsable index.now }
+{
+    if !is_of_file(index, source) {
+        return false;
+    }
+    index.entries == 0 || index.pages > 0 && index.height > 0
 }
 
 fn number_entry(key: i64, page: u32, slot: u32) -> KeyEntry {
