@@ -17,3 +17,4 @@ mod Found
 mod Drives
 mod LevelLaws
 mod Ordered
+mod Examples

@@ -1,13 +1,11 @@
 -- The interval that bounds leave, bound by bound.
-use Rattle.std.proofs.Common.{◌≡◌, ℕ, zero, suc, ◌+◌, ◌-◌, ◌<◌, ◌≤◌, List, [], ◌∷◌, length, drop, get_or, max, min, Option, Some, None, refl, sym, ap, subst, ◌∙◌, arith}
-use Rattle.std.proofs.lemmas.List.{drop_all}
+use Rattle.std.proofs.Common.{◌≡◌, ℕ, zero, suc, ◌+◌, ◌<◌, ◌≤◌, List, [], ◌∷◌, length, drop, get_or, max, min, Option, Some, refl, sym, ap, ◌∙◌, arith}
 use Rattle.rows.specs.declared.plain.Bound.{Bound}
 use Rattle.rows.specs.declared.plain.Interval.{Interval}
 use Rattle.rows.specs.declared.plain.KeyEntry.{KeyEntry}
 use Rattle.rows.specs.declared.plain.KeyIndex.{KeyIndex}
 use Rattle.key_index.specs.Files.{HoldsIndex}
 use Rattle.key_index.specs.Intervals.{interval_of, lower_end, lower_of, upper_end, upper_of}
-use Rattle.key_index.specs.Searches.{NotBad}
 
 upper_le : (bounds : List Bound) (entries : List KeyEntry) → upper_of bounds entries ≤ length entries
 upper_le [] entries = omega arith
