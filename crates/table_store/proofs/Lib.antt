@@ -1,4 +1,5 @@
 mod Addresses
+mod IndexPages
 mod Again
 mod Cut
 mod Encoded
