@@ -3,6 +3,7 @@
 
 mod database;
 mod database_reading;
+mod entries;
 mod files;
 mod page_rows;
 mod reading;
