@@ -8,3 +8,4 @@ pub mod Pages
 mod Stored
 pub mod Laying
 pub mod DatabaseRead
+pub mod Placed
