@@ -118,8 +118,14 @@ few_index_pages t heap file entries h levels = omega (arith, few_pages file 0 0 
 same_levels : (file other level base : ℕ) (levels : List (List (List Item))) → length (pages_of_levels file level base levels) ≡ length (pages_of_levels other level base levels)
 same_levels file other level base [] = refl
 same_levels file other level base (b ∷ levels) =
-    omega (arith, length-append (level_pages file level base b) (pages_of_levels file (suc level) (base + length b) levels), length-append (level_pages other level base b) (pages_of_levels other (suc level) (base + length b) levels),
-    length_level file level base b, length_level other level base b, same_levels file other (suc level) (base + length b) levels)
+    omega (
+      arith,
+      length-append (level_pages file level base b) (pages_of_levels file (suc level) (base + length b) levels),
+      length-append (level_pages other level base b) (pages_of_levels other (suc level) (base + length b) levels),
+      length_level file level base b,
+      length_level other level base b,
+      same_levels file other (suc level) (base + length b) levels,
+    )
 
 -- the number of the file doesn't matter
 pub same_count : (file other : ℕ) (entries : List KeyEntry) → length (index_pages file entries) ≡ length (index_pages other entries)

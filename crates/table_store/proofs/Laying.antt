@@ -1,7 +1,7 @@
 -- Databases that are laid on drives.
-use Rattle.std.proofs.Common.{◌≡◌, ◌≢◌, ℕ, ◌+◌, ◌<◌, ◌≤◌, Bool, List, [], ◌∷◌, ◌++◌, length, map, Option, Some, None, Result, Ok, Err, refl, sym, ap, subst, ◌∙◌, arith, inl, inr, IfOk, IfErr, IfSome}
+use Rattle.std.proofs.Common.{◌≡◌, ℕ, ◌+◌, ◌<◌, ◌≤◌, List, [], ◌∷◌, ◌++◌, length, Option, Some, None, Result, Ok, Err, refl, sym, ap, subst, ◌∙◌, arith, inl, inr, IfOk, IfErr, IfSome}
 use Rattle.std.specs.Global.{Vec}
-use Rattle.std.specs.Prelude.{slice_get, ◌⊎◌, is_some, replicate, All}
+use Rattle.std.specs.Prelude.{slice_get, is_some, replicate, All}
 use Rattle.std.proofs.lemmas.List.{length-append, length-map, length-replicate, get_or-replicate}
 use Rattle.std.proofs.lemmas.List.Elements.{All-map, All-push}
 use Rattle.std.proofs.lemmas.Option.{slice_get-get_or}
@@ -10,11 +10,10 @@ use Rattle.xp_outside.specs.declared.drive.Drive.{Ghosts}
 use Rattle.heap_page.specs.declared.errors.StoreErr.{StoreErr}
 use Rattle.heap_page.specs.declared.errors.StoreErr.TheVariants.{DriveFault, DriveFull, NoMemory}
 use Rattle.heap_page.specs.declared.map.FileMap.{FileMap}
-use Rattle.heap_page.specs.declared.map.PageFile.{PageFile}
 use Rattle.heap_page.specs.Blocks.{ArePages, FitsAlone, blocks_of, byte_lists, item_weight}
 use Rattle.heap_page.specs.Maps.{address_of, drive_of, HasPage, IsMap}
 use Rattle.heap_page.specs.Pages.{page_of}
-use Rattle.heap_page.specs.Stores.{AreRead, AreWritten, HaveRoom, IsFull, IsRead, KeepsBut, StoreCause, TellsAt}
+use Rattle.heap_page.specs.Stores.{AreRead, AreWritten, HaveRoom, IsFull, KeepsBut, StoreCause, TellsAt}
 use Rattle.rows.specs.declared.plain.Column.{Column}
 use Rattle.rows.specs.declared.plain.KeyIndex.{KeyIndex}
 use Rattle.rows.specs.declared.plain.Relation.{Relation}
@@ -22,7 +21,6 @@ use Rattle.rows.specs.declared.value.Value.{Value}
 use Rattle.rows.specs.RowBytes.{IsRowOf, row_bytes}
 use Rattle.rel_meaning.specs.declared.query.Table.{Table}
 use Rattle.key_index.specs.Files.{index_pages}
-use Rattle.table_store.specs.declared.files.StoredIndex.{StoredIndex}
 use Rattle.table_store.specs.declared.files.StoredTable.{StoredTable}
 use Rattle.table_store.specs.declared.database.Laid.{Laid}
 use Rattle.table_store.specs.Databases.{AllFresh, AreKept, AreStored, IsKept, IsLaid, IsLaidOut, IsMapOf, IsStored, IsTableOf, LayCause, LayoutCause, MayStore}

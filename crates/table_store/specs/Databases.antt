@@ -1,5 +1,5 @@
 -- A database that is laid on drives.
-use Rattle.std.specs.Prelude.{◌≡◌, ℕ, ◌<◌, ◌≤◌, List, length, map, slice_get, Option, Some, None, is_some, IfSome, All, ⊤}
+use Rattle.std.specs.Prelude.{◌≡◌, ℕ, ◌<◌, ◌≤◌, List, length, slice_get, Option, Some, None, is_some, IfSome, All, ⊤}
 use Rattle.xp_outside.specs.Drives.{IsFresh}
 use Rattle.xp_outside.specs.declared.drive.Drive.{Ghosts}
 use Rattle.heap_page.specs.declared.errors.FetchErr.{FetchErr}

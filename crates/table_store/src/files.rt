@@ -77,11 +77,7 @@ pub(crate) fn index_numbers(
 }
 
 // Adds the files of a table.
-fn add_files(
-    alloc: Global,
-    files: &mut Vec<PageFile>,
-    table: &StoredTable,
-) -> Result<(), NoMemory>
+fn add_files(alloc: Global, files: &mut Vec<PageFile>, table: &StoredTable) -> Result<(), NoMemory>
     requires { IsStorable table.now }
     ensures { OnOk result (files.new.items ≡ files.old.items ++ files_of_table table.now) }
 {

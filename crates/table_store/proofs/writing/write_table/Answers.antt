@@ -1,6 +1,5 @@
 use Rattle.std.proofs.Common.{◌+◌}
 use Rattle.heap_page.specs.Maps.{IsPlace}
-use Rattle.heap_page.specs.Stores.{HaveRoom}
 use Rattle.key_index.specs.Files.{index_pages}
 use Rattle.key_index.specs.Written.{AllStand}
 use Rattle.table_store.specs.Images.{HoldTable}
