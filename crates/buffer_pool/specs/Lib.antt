@@ -1,0 +1,10 @@
+pub mod Counts
+pub mod Fetched
+pub mod Images
+pub mod Locks
+pub mod Lone
+pub mod Places
+pub mod Seats
+pub mod Shards
+pub mod Told
+pub mod Used

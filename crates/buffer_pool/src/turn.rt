@@ -1,0 +1,43 @@
+//! One turn on a shard.
+ghost use Rattle.std.specs.Prelude.{◌<◌, ◌≤◌};
+ghost use Rattle.run_lock.specs.Passes.{IsFree, IsSamePass, seen_of};
+ghost use Rattle.buffer_pool.specs.Counts.{count_of};
+ghost use Rattle.buffer_pool.specs.Fetched.{IsFetched};
+ghost use Rattle.buffer_pool.specs.Locks.{lock_drive};
+
+use crate::place::{Place, of_drive};
+use crate::shard::Shard;
+use heap_page::{FetchErr, Page};
+use run_lock::{Pass, RunLock};
+use std::alloc::Global;
+use std::sync::{Arc, Wait};
+use xp_outside::Drive;
+
+// The page at a place, under the lock of the drive's shard. It is a drive's fault only where the pass has then seen a
+// counter that rose.
+pub(crate) fn fetch_in_turn<D: Drive, R: Wait>(
+    rt: &R,
+    alloc: Global,
+    lock: &RunLock<Shard<D>>,
+    pass: &mut Pass<Shard<D>>,
+    place: Place,
+    file: u32,
+    page: u32,
+) -> Result<Arc<Page>, FetchErr>
+    requires pass { IsFree lock.now pass.old }
+    requires within { place.address < D.size (lock_drive lock.now) }
+    ensures free { IsFree lock.now pass.new }
+    ensures pass { IsSamePass pass.old pass.new }
+    ensures count { seen_of pass.old ≤ seen_of pass.new }
+    ensures fetched { IsFetched (D.pages (lock_drive lock.now)) place file page (count_of (seen_of pass.old)) (count_of (seen_of pass.new)) result }
+{
+    let mut held = lock.take(rt, pass);
+    let answer = held
+        .value()
+        .fetch(alloc, place.kind, file, page, place.address);
+    lock.put(pass, held);
+    match answer {
+        Ok(found) => Ok(found),
+        Err(error) => Err(of_drive(error, place.drive)),
+    }
+}
