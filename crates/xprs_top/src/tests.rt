@@ -5,7 +5,7 @@ use lists::Sequence;
 use std::alloc::{AllocError, Global};
 use std::test::Fail;
 use xp_outside::{
-    FileList, MemDrive, MemRack, MemShelf, MemSink, NamedFile, NumberList, Rack, WildRack,
+    Drive, FileList, MemDrive, MemRack, MemShelf, MemSink, NamedFile, NumberList, Rack, WildRack,
 };
 
 // The files: a name, and the bytes with `|` for a line feed and `^` for a carriage return.
@@ -300,7 +300,7 @@ fn words_and_devices_have_their_statuses(rt: HostRuntime) -> Result<(), Fail> {
         ),
         (
             Devices {
-                write_fails: &[6],
+                write_fails: &[7],
                 ..SOUND
             },
             "0 name|Ann|Cid|",
@@ -320,10 +320,10 @@ fn words_and_devices_have_their_statuses(rt: HostRuntime) -> Result<(), Fail> {
             "0 name|Ann|Cid|",
         ),
         (
-            Devices { pages: 4, ..SOUND },
-            "8 xprs: drive 0 needs 5 pages and has 4|",
+            Devices { pages: 5, ..SOUND },
+            "8 xprs: drive 0 needs 6 pages and has 5|",
         ),
-        (Devices { pages: 5, ..SOUND }, "0 name|Ann|Cid|"),
+        (Devices { pages: 6, ..SOUND }, "0 name|Ann|Cid|"),
     ];
     for (devices, wanted) in devices {
         let left = answer(alloc, &["alone", "cat", "q"], files(alloc, &[])?, devices)?;
@@ -369,6 +369,26 @@ fn drives_are_handed_back_with_their_counts_and_their_pages(rt: HostRuntime) -> 
     )?;
     let left = left(alloc, ended.status, &ended.out, &ended.err)?;
     assert_eq!(rt; left.as_slice(), lines(alloc, "0 name|")?.as_slice());
+    Ok(())
+}
+
+#[test]
+fn an_index_stands_behind_the_heap_file_of_its_table(rt: HostRuntime) -> Result<(), Fail> {
+    let alloc = rt.alloc();
+    let item = "relation ITEM from \"item.csv\" (id = int4, title = text, price = int4, sold = bool) index id|";
+    let files = files(alloc, &[("cat", item), ("q", "retrieve (x = 1) \\g")])?;
+    let ended = run(alloc, &["alone", "cat", "q"], files, SOUND)?;
+    assert_eq!(rt; ended.status, 0);
+    assert_eq!(rt; ended.drives.len(), 4);
+    let drive = &ended.drives[0];
+    assert!(rt; drive.capacity() > 1);
+    // a leaf of file 1 with four entries: key, heap page and slot
+    let leaf = b"XPIX\x00\x01\x00\x04\x00\x00\x00\x01\x00\x00\x00\x00\x00\x00\x00\x00\
+        \x00\x00\x00\x07\x00\x00\x00\x00\x00\x03\
+        \x00\x00\x00\x0a\x00\x00\x00\x00\x00\x00\
+        \x00\x00\x00\x0b\x00\x00\x00\x00\x00\x01\
+        \x00\x00\x00\x0c\x00\x00\x00\x00\x00\x02";
+    assert_eq!(rt; &drive.page(1)[..60], leaf.as_slice());
     Ok(())
 }
 
