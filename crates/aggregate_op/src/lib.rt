@@ -1,0 +1,7 @@
+//! Folds of groups of rows: which they are. A fold counts, adds up or takes the least or the greatest of values, group
+//! by group.
+#![tactic(auto)]
+
+mod fold;
+
+pub use fold::{Fold, FoldOp, FoldOpList, FoldPlace, FoldPlaceList};

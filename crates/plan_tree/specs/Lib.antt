@@ -1,0 +1,5 @@
+pub mod Assignments
+pub mod Conjuncts
+pub mod Keys
+pub mod Trees
+pub mod Views
