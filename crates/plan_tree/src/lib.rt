@@ -1,8 +1,10 @@
 //! Plans: the tree of a query, and the fragments that it is cut into.
 #![tactic(auto)]
 
+mod copying;
 mod fragment;
 mod tree;
 
+pub use copying::{copy_expr, copy_exprs, copy_plain, copy_query, copy_targets};
 pub use fragment::{End, Fragment, FragmentList, Pipe, Probe, ProbeList, Source};
 pub use tree::{ExprList, Method, Plan, PlanList, Tree, Way};
