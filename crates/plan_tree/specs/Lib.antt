@@ -3,3 +3,7 @@ pub mod Conjuncts
 pub mod Keys
 pub mod Trees
 pub mod Views
+pub mod Combining
+pub mod Rows
+pub mod Pieces
+pub mod Fragments
