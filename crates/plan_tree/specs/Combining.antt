@@ -1,10 +1,20 @@
 -- Layouts of rows of several variables, and how two rows are combined.
-use Rattle.std.specs.Prelude.{◌≡◌, ℕ, ◌+◌, Bool, true, false, ◌==◌, nat_lt, List, [], ◌∷◌, ◌++◌, length, Option, Some, None, is_some, if◌then◌else◌, ⊤}
+use Rattle.std.specs.Prelude.{◌≡◌, ◌<◌, ℕ, ◌+◌, Bool, true, false, ◌==◌, nat_lt, List, [], ◌∷◌, ◌++◌, length, Option, Some, None, is_some, if◌then◌else◌, ⊤}
+use Rattle.std.specs.List.{AllByRecursion}
 use Rattle.rows.specs.declared.value.Value.{Value}
 use Rattle.rows.specs.declared.plain.LayoutColumn.{LayoutColumn}
 use Rattle.rows.specs.declared.plain.LayoutPart.{LayoutPart}
 use Rattle.rel_meaning.specs.Layouts.{column_in}
 use Rattle.plan_tree.specs.Assignments.{Assignment}
+
+-- the variable of the part is below those of the others
+abbrev pub ComesFirst : LayoutPart → List LayoutPart → Type 0
+ComesFirst p ps = AllByRecursion (λ (q : LayoutPart). p.var < q.var) ps
+
+-- each variable has one part, in ascending order
+abbrev pub IsOrdered : List LayoutPart → Type 0
+IsOrdered [] = ⊤
+IsOrdered (p ∷ ps) = ComesFirst p ps × IsOrdered ps
 
 -- the columns of a variable
 abbrev pub part_of : List LayoutPart → ℕ → Option (List LayoutColumn)
@@ -13,6 +23,10 @@ part_of (part ∷ parts) var = if part.var == var then Some part.columns else pa
 
 abbrev pub has_part : List LayoutPart → ℕ → Bool
 has_part layout var = is_some (part_of layout var)
+
+-- no variable has a part in both
+abbrev pub AreApart : List LayoutPart → List LayoutPart → Type 0
+AreApart first second = (var : ℕ) → has_part first var ≡ true → part_of second var ≡ None
 
 abbrev pub insert_part : LayoutPart → List LayoutPart → List LayoutPart
 insert_part p [] = p ∷ []

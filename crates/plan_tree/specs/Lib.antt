@@ -7,3 +7,4 @@ pub mod Combining
 pub mod Rows
 pub mod Pieces
 pub mod Fragments
+pub mod WellFormed
