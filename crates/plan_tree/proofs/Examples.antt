@@ -8,7 +8,7 @@ use Rattle.rows.specs.declared.plain.Column.{Column}
 use Rattle.rows.specs.declared.plain.KeyPair.{KeyPair}
 use Rattle.rows.specs.declared.plain.LayoutPart.{LayoutPart}
 use Rattle.rows.specs.RowBytes.{row_bytes}
-use Rattle.rel_meaning.specs.Expression.{Expression, column, compare, Output, Question}
+use Rattle.rel_meaning.specs.Expression.{Expression, column, compare, Question}
 use Rattle.rel_meaning.specs.declared.expr.CompareOp.TheVariants as op
 use Rattle.rel_meaning.specs.declared.query.Table.{Table}
 use Rattle.rel_meaning.specs.Meaning.{meaning, layout_column}
@@ -20,7 +20,7 @@ use Rattle.plan_tree.specs.Conjuncts.{conjuncts}
 use Rattle.plan_tree.specs.Trees.{Shape, scan, join, IsPlaced, HasMethods}
 use Rattle.plan_tree.specs.Combining.{merged}
 use Rattle.plan_tree.specs.Rows.{one_part}
-use Rattle.plan_tree.specs.Pieces.{Piece, Piping, Ending, building, answering, sorting}
+use Rattle.plan_tree.specs.Pieces.{Piece, Ending, building, answering, sorting}
 use Rattle.plan_tree.specs.Fragments.{Stored, values_of, value_at, rows_in}
 
 -- employees with a number and the number of a department, one without a department, and departments with a number and a floor
@@ -52,7 +52,10 @@ abbrev question : Question
 question = record {
   vars = record { name = codes "e"; relation = 0 } ∷ record { name = codes "d"; relation = 1 } ∷ [];
   targets = record { name = codes "eno"; expr = column 0 0 } ∷ record { name = codes "floor"; expr = column 1 1 } ∷ [];
-  test = Some same_department; unique = false; keys = [] }
+  test = Some same_department;
+  unique = false;
+  keys = [];
+}
 
 abbrev key : KeyPair
 key = record { build = record { var = 0; col = 1 }; probe = record { var = 1; col = 0 } }
@@ -102,7 +105,14 @@ dept_layout = one_part 1 (map layout_column dept_columns)
 
 abbrev scanning : Source → List Column → List LayoutPart → Ending → ℕ → Piece
 scanning from columns layout end positions = record {
-  statement = 0; pipe = record { source = from; columns = columns; tests = []; probes = [] }; end = end; layout = layout; positions = positions; pages = 1; time = 1 }
+  statement = 0;
+  pipe = record { source = from; columns = columns; tests = []; probes = [] };
+  end = end;
+  layout = layout;
+  positions = positions;
+  pages = 1;
+  time = 1;
+}
 
 abbrev answering_end : Ending
 answering_end = answering question.targets question.unique question.keys
@@ -111,12 +121,17 @@ answering_end = answering question.targets question.unique question.keys
 
 abbrev hash_pieces : Source → ℕ → List Piece
 hash_pieces from positions =
-  scanning (source.Heap 0 0) emp_columns emp_layout (building (key.build ∷ [])) 2
-  ∷ record {
+    scanning (source.Heap 0 0) emp_columns emp_layout (building (key.build ∷ [])) 2
+    ∷ record {
       statement = 0;
       pipe = record { source = from; columns = dept_columns; tests = []; probes = record { input = 0; keys = key ∷ []; tests = []; layout = merged emp_layout dept_layout } ∷ [] };
-      end = answering_end; layout = merged emp_layout dept_layout; positions = positions; pages = 1; time = 1 }
-  ∷ []
+      end = answering_end;
+      layout = merged emp_layout dept_layout;
+      positions = positions;
+      pages = 1;
+      time = 1;
+    }
+    ∷ []
 
 hash_value : value_at (values_of files (hash_pieces (source.Heap 1 1) 1)) 1 ≡ answer
 hash_value = refl
@@ -128,10 +143,10 @@ index_value = refl
 
 abbrev merge_pieces : List Piece
 merge_pieces =
-  scanning (source.Heap 0 0) emp_columns emp_layout (sorting (record { column = 1; down = false } ∷ [])) 2
-  ∷ scanning (source.Heap 1 1) dept_columns dept_layout (sorting (record { column = 0; down = false } ∷ [])) 1
-  ∷ scanning (source.Merge 0 1 (key ∷ []) emp_layout dept_layout) [] (merged emp_layout dept_layout) answering_end 64
-  ∷ []
+    scanning (source.Heap 0 0) emp_columns emp_layout (sorting (record { column = 1; down = false } ∷ [])) 2
+    ∷ scanning (source.Heap 1 1) dept_columns dept_layout (sorting (record { column = 0; down = false } ∷ [])) 1
+    ∷ scanning (source.Merge 0 1 (key ∷ []) emp_layout dept_layout) [] (merged emp_layout dept_layout) answering_end 64
+    ∷ []
 
 merge_value : value_at (values_of files merge_pieces) 2 ≡ answer
 merge_value = refl

@@ -1,5 +1,5 @@
 -- What each fragment of a script gives over the stored files.
-use Rattle.std.specs.Prelude.{ℕ, ◌+◌, ◌-◌, ◌*◌, ◌/◌, not, false, List, [], ◌∷◌, ◌++◌, map, length, take, drop, filter, Option, Some, None, slice_get, slice_index_or}
+use Rattle.std.specs.Prelude.{ℕ, ◌+◌, ◌-◌, ◌*◌, ◌/◌, not, false, List, [], ◌∷◌, ◌++◌, map, length, take, drop, filter, Option, slice_get, slice_index_or}
 use Rattle.std.specs.List.{flat_map, range_with_len}
 use Rattle.std.specs.Option.{option_to_list, option_and_then}
 use Rattle.rows.specs.declared.value.Value.{Value}

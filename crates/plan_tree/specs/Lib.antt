@@ -8,3 +8,5 @@ pub mod Rows
 pub mod Pieces
 pub mod Fragments
 pub mod WellFormed
+pub mod Ends
+pub mod Explained

@@ -55,8 +55,14 @@ ending_of (end.Sort keys) = sorting keys
 
 abbrev pub piece_of : Fragment → Piece
 piece_of f = record {
-    statement = f.statement; pipe = piping_of f.pipe; end = ending_of f.end; layout = f.layout;
-    positions = f.positions; pages = f.pages; time = f.time }
+  statement = f.statement;
+  pipe = piping_of f.pipe;
+  end = ending_of f.end;
+  layout = f.layout;
+  positions = f.positions;
+  pages = f.pages;
+  time = f.time;
+}
 
 abbrev pub pieces_of : List Fragment → List Piece
 pieces_of fragments = map piece_of fragments

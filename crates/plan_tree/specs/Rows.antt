@@ -43,4 +43,4 @@ tree_rows columns scanned (one tests) = kept [] tests ([] ∷ [])
 tree_rows columns scanned (scan v way tests) = kept (one_part v (columns v)) tests (scanned v way)
 tree_rows columns scanned (join m a b keys tests) =
     kept (merged (layout_of_tree columns a) (layout_of_tree columns b)) tests
-        (probed (merged (layout_of_tree columns a) (layout_of_tree columns b)) (layout_of_tree columns a) (layout_of_tree columns b) keys (tree_rows columns scanned a) (tree_rows columns scanned b))
+    (probed (merged (layout_of_tree columns a) (layout_of_tree columns b)) (layout_of_tree columns a) (layout_of_tree columns b) keys (tree_rows columns scanned a) (tree_rows columns scanned b))

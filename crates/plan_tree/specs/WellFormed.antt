@@ -1,5 +1,5 @@
 -- Lists of fragments that fit together, and the shape of their rows.
-use Rattle.std.specs.Prelude.{◌≡◌, ◌<◌, ◌≤◌, ◌+◌, ◌-◌, ◌^◌, ℕ, false, IsTrue, ◌⊎◌, List, [], ◌∷◌, map, length, take, drop, Option, Some, None, IsSome, slice_get, unwrap_or, ⊤}
+use Rattle.std.specs.Prelude.{◌≡◌, ◌<◌, ◌≤◌, ◌+◌, ◌-◌, ◌^◌, ℕ, false, IsTrue, ◌⊎◌, List, [], ◌∷◌, map, length, take, drop, Option, Some, IsSome, slice_get, unwrap_or, ⊤}
 use Rattle.std.specs.List.{AllByRecursion}
 use Rattle.std.specs.Ordering.{nat_cmp}
 use Rattle.lists.specs.Arranged.{Ascends}
@@ -19,10 +19,11 @@ use Rattle.aggregate_op.specs.declared.fold.Fold.{Fold}
 use Rattle.aggregate_op.specs.declared.fold.FoldOp.{FoldOp}
 use Rattle.aggregate_op.specs.declared.fold.FoldOp.TheVariants.{Sum}
 use Rattle.aggregate_op.specs.Partials.{IsPartial}
+use Rattle.plan_tree.specs.declared.fragment.Fragment.{Fragment}
 use Rattle.plan_tree.specs.declared.fragment.Source.{Source}
 use Rattle.plan_tree.specs.declared.fragment.Source.TheVariants as source
 use Rattle.plan_tree.specs.Combining.{IsOrdered, AreApart, merged}
-use Rattle.plan_tree.specs.Pieces.{Probing, Piping, Ending, building, answering, folding, sorting, Piece}
+use Rattle.plan_tree.specs.Pieces.{Probing, Ending, building, answering, folding, sorting, Piece}
 use Rattle.plan_tree.specs.Fragments.{added, source_layout, merge_slices}
 
 -- ---- types
@@ -147,6 +148,9 @@ pub record IsTimed (pages time : ℕ) : Type 0 where
   pub few_pages : pages ≤ 2 ^ 40
   pub some_time : 1 ≤ time
   pub short : time ≤ 2 ^ 40
+
+abbrev pub IsTimedFragment : Fragment → Type 0
+IsTimedFragment f = IsTimed f.pages f.time
 
 -- a fragment behind earlier ones
 pub record IsPiece (before : List Piece) (piece : Piece) : Type 0 where
