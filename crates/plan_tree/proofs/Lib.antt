@@ -1,2 +1,12 @@
 mod Examples
 pub mod Lines
+pub mod Sums
+pub mod Choosing
+pub mod Tests
+pub mod Placement
+pub mod Combined
+pub mod Ascending
+pub mod Joined
+pub mod Bags
+pub mod TreeRows
+pub mod TreeMeaning
