@@ -1,11 +1,10 @@
 -- Lists with the same elements are arranged alike.
-use Rattle.std.proofs.Common.{◌≡◌, ℕ, ◌+◌, min, Bool, true, false, cond, List, [], ◌∷◌, refl, sym, ap, ◌∙◌, arith}
+use Rattle.std.proofs.Common.{◌≡◌, ℕ, ◌+◌, Bool, true, false, cond, List, [], ◌∷◌, refl, sym, ap, ◌∙◌, arith}
 use Rattle.std.specs.List.{dedup}
 use Rattle.std.specs.declared.cmp.Ordering.{Ordering}
 use Rattle.std.specs.Ordering.{is_gt, is_eq}
 use Rattle.std.specs.Cmp.{IsTotalOrder}
-use Rattle.std.proofs.lemmas.Map.Lookups.{CmpEqualImpliesEq}
-use Rattle.lists.specs.Arranged.{insert_by, sort_by, distinct_by, one_if, occurrences}
+use Rattle.lists.specs.Arranged.{insert_by, sort_by, one_if, occurrences}
 use Rattle.lists.proofs.Arranging.{bag_fixes, sort_ascends, occurrences-sort, dedup-sort}
 use Rattle.rows.specs.declared.value.Value.{Value}
 use Rattle.rows.specs.declared.order.SortKey.{SortKey}
@@ -23,7 +22,9 @@ same_occurrences cmp xs ys same z = counted cmp z xs ∙ same (λ x. one_if (is_
 total_insert : {K : Type 0} (cmp : K → K → Ordering) (f : K → ℕ) (x : K) (xs : List K) → total f (insert_by cmp x xs) ≡ f x + total f xs
 total_insert cmp f x [] = refl
 total_insert cmp f x (y ∷ ys) = elim (is_gt (cmp x y)) as (λ b. total f (cond b (y ∷ insert_by cmp x ys) (x ∷ y ∷ ys)) ≡ f x + (f y + total f ys)) [
-  true ↦ omega (arith, total_insert cmp f x ys) | false ↦ refl ]
+  | true ↦ omega (arith, total_insert cmp f x ys)
+  | false ↦ refl
+]
 
 -- a sort only moves elements
 pub sort_same : {K : Type 0} (cmp : K → K → Ordering) (xs : List K) → Same (sort_by cmp xs) xs
@@ -35,9 +36,11 @@ pub arranged_same : (unique : Bool) (keys : List SortKey) (xs ys : List (List Va
 arranged_same unique keys xs ys same = by unique where
   order : IsTotalOrder (row_cmp keys)
   order = row_total keys
+
   sorted : sort_by (row_cmp keys) xs ≡ sort_by (row_cmp keys) ys
   sorted = bag_fixes order (row_exact keys) _ _ (sort_ascends order xs) (sort_ascends order ys)
-    (λ z. occurrences-sort order z xs ∙ same_occurrences (row_cmp keys) xs ys same z ∙ sym (occurrences-sort order z ys))
+      (λ z. occurrences-sort order z xs ∙ same_occurrences (row_cmp keys) xs ys same z ∙ sym (occurrences-sort order z ys))
+
   by : (b : Bool) → arranged b keys xs ≡ arranged b keys ys
   by true = sym (dedup-sort order (row_exact keys) xs) ∙ ap (dedup (λ next kept. is_eq (row_cmp keys next kept))) sorted ∙ dedup-sort order (row_exact keys) ys
   by false = sorted

@@ -10,3 +10,6 @@ pub mod Joined
 pub mod Bags
 pub mod TreeRows
 pub mod TreeMeaning
+pub mod Typing
+pub mod Resolved
+pub mod TreeAnswers

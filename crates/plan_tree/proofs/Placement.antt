@@ -1,26 +1,24 @@
 -- The tests and keys of a tree's nodes hold together where the conjuncts do.
-use Rattle.std.proofs.Common.{◌≡◌, ℕ, ◌+◌, Bool, true, false, ◌&&◌, ◌||◌, not, cond, ◌==◌, List, [], ◌∷◌, ◌++◌, Option, Some, None, refl, sym, ap, ◌∙◌, subst, arith}
+use Rattle.std.proofs.Common.{◌≡◌, ℕ, Bool, true, false, ◌&&◌, ◌||◌, not, cond, ◌==◌, List, [], ◌∷◌, Option, Some, None, refl, sym, ap, ◌∙◌, subst}
 use Rattle.std.specs.List.{filter, AllByRecursion}
 use Rattle.std.specs.Ordering.{is_eq, ordering_reverse}
 use Rattle.std.specs.declared.cmp.Ordering.{Ordering}
 use Rattle.std.specs.declared.cmp.Ordering.TheVariants.{Less, Equal, Greater}
 use Rattle.rows.specs.Values.{value_cmp}
 use Rattle.rows.proofs.Orders.{value_total}
-use Rattle.std.proofs.lemmas.Bool.Decides.{nat_tests}
 use Rattle.rows.specs.declared.value.Value.{Value}
 use Rattle.rows.specs.declared.value.Value.TheVariants as value
 use Rattle.rel_meaning.specs.Expression as ex
 use Rattle.rel_meaning.specs.Expression.{Expression}
-use Rattle.rel_meaning.specs.declared.expr.CompareOp.{CompareOp}
 use Rattle.rel_meaning.specs.declared.expr.CompareOp.TheVariants as op
-use Rattle.rel_meaning.specs.Eval.{eval, compare_values, is_null}
+use Rattle.rel_meaning.specs.Eval.{compare_values, is_null}
 use Rattle.rel_meaning.specs.Meaning.{is_true}
 use Rattle.rows.specs.declared.plain.ColumnRef.{ColumnRef}
 use Rattle.rows.specs.declared.plain.KeyPair.{KeyPair}
-use Rattle.plan_tree.specs.Assignments.{Assignment, bind}
+use Rattle.plan_tree.specs.Assignments.{Assignment}
 use Rattle.plan_tree.specs.Conjuncts.{is_within, names_none, is_met, all_met}
-use Rattle.plan_tree.specs.Keys.{Equality, column_ref, two_columns, if_equal, equality_of, pair_of, pair_if, key_of, with_key, keys_of, no_key, values_match, is_key_met, all_keys_met}
-use Rattle.plan_tree.specs.Trees.{Shape, one, scan, join, has, is_inside, is_join_test, scan_tests, IsPlaced}
+use Rattle.plan_tree.specs.Keys.{Equality, column_ref, two_columns, equality_of, pair_of, pair_if, key_of, with_key, keys_of, no_key, values_match, is_key_met, all_keys_met}
+use Rattle.plan_tree.specs.Trees.{Shape, one, scan, join, has, is_inside, is_join_test, IsPlaced}
 use Rattle.plan_tree.proofs.Tests.{first_of_both, second_of_both}
 
 -- a conjunct that is `a = b` of two columns
@@ -47,8 +45,8 @@ columns_are s t q h = by (column_ref s) (column_ref t) refl refl h where
   by None d i j k = cc
   by (Some c) None i j k = cc
   by (Some c) (Some d) i j k =
-    let l : record { left = c; right = d } ≡ q = cc in
-    (λ n. ex.compare op.Equal (column_is s c i n) (column_is t d j n)) ∙ ap equality l
+      let l : record { left = c; right = d } ≡ q = cc in
+      (λ n. ex.compare op.Equal (column_is s c i n) (column_is t d j n)) ∙ ap equality l
 
 equality_is : (t : Expression) (q : Equality) → equality_of t ≡ Some q → t ≡ equality q
 equality_is (ex.compare op.Equal s t) q h = columns_are s t q h
@@ -89,6 +87,7 @@ match_turned a b = λ i. turned (not (is_null a)) (not (is_null b)) _ _ (same_eq
   same_eq Less s h = sym (ap is_eq h)
   same_eq Equal s h = sym (ap is_eq h)
   same_eq Greater s h = sym (ap is_eq h)
+
   turned : (a b c d : Bool) → c ≡ d → (a && b && c) ≡ (b && a && d)
   turned true true c d h = h
   turned true false c d h = refl
@@ -132,21 +131,23 @@ module _ (first second : ℕ → Bool) (e : Assignment) where
   pair_is : (q : Equality) (key : KeyPair) → pair_of first second q.left q.right ≡ Some key → IsKey (equality q) key
   pair_is q key h = by (first q.left.var && second q.right.var) (first q.right.var && second q.left.var) refl refl h where
     by : (a b : Bool) → (first q.left.var && second q.right.var) ≡ a → (first q.right.var && second q.left.var) ≡ b →
-      cond a (Some (record { build = q.left; probe = q.right })) (cond b (Some (record { build = q.right; probe = q.left })) None) ≡ Some key → IsKey (equality q) key
+        cond a (Some (record { build = q.left; probe = q.right })) (cond b (Some (record { build = q.right; probe = q.left })) None) ≡ Some key → IsKey (equality q) key
     by true b i j k =
-      let l : record { build = q.left; probe = q.right } ≡ key = cc in
-      subst (λ x. IsKey (equality q) x) l (record {
-        met = match_is (e q.left.var q.left.col) (e q.right.var q.right.col);
-        inside = rw (left_more (first q.left.var) (second q.left.var) (first_of_both (first q.left.var) (second q.right.var) i), right_more (first q.right.var) (second q.right.var) (second_of_both (first q.left.var) (second q.right.var) i)) refl;
-        build_in = first_of_both (first q.left.var) (second q.right.var) i;
-        probe_in = second_of_both (first q.left.var) (second q.right.var) i })
+        let l : record { build = q.left; probe = q.right } ≡ key = cc in
+        subst (λ x. IsKey (equality q) x) l (record {
+          met = match_is (e q.left.var q.left.col) (e q.right.var q.right.col);
+          inside = rw (left_more (first q.left.var) (second q.left.var) (first_of_both (first q.left.var) (second q.right.var) i), right_more (first q.right.var) (second q.right.var) (second_of_both (first q.left.var) (second q.right.var) i)) refl;
+          build_in = first_of_both (first q.left.var) (second q.right.var) i;
+          probe_in = second_of_both (first q.left.var) (second q.right.var) i;
+        })
     by false true i j k =
-      let l : record { build = q.right; probe = q.left } ≡ key = cc in
-      subst (λ x. IsKey (equality q) x) l (record {
-        met = match_is (e q.left.var q.left.col) (e q.right.var q.right.col) ∙ match_turned (e q.left.var q.left.col) (e q.right.var q.right.col);
-        inside = rw (right_more (first q.left.var) (second q.left.var) (second_of_both (first q.right.var) (second q.left.var) j), left_more (first q.right.var) (second q.right.var) (first_of_both (first q.right.var) (second q.left.var) j)) refl;
-        build_in = first_of_both (first q.right.var) (second q.left.var) j;
-        probe_in = second_of_both (first q.right.var) (second q.left.var) j })
+        let l : record { build = q.right; probe = q.left } ≡ key = cc in
+        subst (λ x. IsKey (equality q) x) l (record {
+          met = match_is (e q.left.var q.left.col) (e q.right.var q.right.col) ∙ match_turned (e q.left.var q.left.col) (e q.right.var q.right.col);
+          inside = rw (right_more (first q.left.var) (second q.left.var) (second_of_both (first q.right.var) (second q.left.var) j), left_more (first q.right.var) (second q.right.var) (first_of_both (first q.right.var) (second q.left.var) j)) refl;
+          build_in = first_of_both (first q.right.var) (second q.left.var) j;
+          probe_in = second_of_both (first q.right.var) (second q.left.var) j;
+        })
     by false false i j k = cc
 
   pub key_is : (t : Expression) (key : KeyPair) → key_of first second t ≡ Some key → IsKey t key
@@ -162,7 +163,7 @@ always true = refl
 always false = refl
 
 table : (m inT inA inB nk rc : Bool) → (inA ≡ true → inT ≡ true) → (inB ≡ true → inT ≡ true) → (nk ≡ false → inT ≡ true) →
-  (cond (inB || false) m true && (cond (inA || false) m true && ((nk || m) && cond ((inT && not inA && not inB && nk) || rc) m true))) ≡ cond (inT || rc) m true
+    (cond (inB || false) m true && (cond (inA || false) m true && ((nk || m) && cond ((inT && not inA && not inB && nk) || rc) m true))) ≡ cond (inT || rc) m true
 table false false true inB nk rc f g h = cc (f refl)
 table false false false true nk rc f g h = cc (g refl)
 table false false false false false rc f g h = cc (h refl)
@@ -189,9 +190,9 @@ two false xs y ys = refl
 
 four : (x xs y ys z zs w ws : Bool) → ((x && xs) && ((y && ys) && ((z && zs) && (w && ws)))) ≡ ((x && (y && (z && w))) && (xs && (ys && (zs && ws))))
 four x xs y ys z zs w ws =
-  ap (λ b. (x && xs) && ((y && ys) && b)) (two z zs w ws)
-  ∙ ap (λ b. (x && xs) && b) (two y ys (z && w) (zs && ws))
-  ∙ two x xs (y && (z && w)) (ys && (zs && ws))
+    ap (λ b. (x && xs) && ((y && ys) && b)) (two z zs w ws)
+    ∙ ap (λ b. (x && xs) && b) (two y ys (z && w) (zs && ws))
+    ∙ two x xs (y && (z && w)) (ys && (zs && ws))
 
 -- the conjuncts that pass p are met
 abbrev pub met_if : (Expression → Bool) → List Expression → Assignment → Bool
@@ -201,7 +202,9 @@ met_if p (c ∷ cs) e = cond (p c) (is_met e c) true && met_if p cs e
 pub met_filter : (p : Expression → Bool) (cs : List Expression) (e : Assignment) → all_met (filter p cs) e ≡ met_if p cs e
 met_filter p [] e = refl
 met_filter p (c ∷ cs) e = elim (p c) as (λ b. all_met (cond b (c ∷ filter p cs) (filter p cs)) e ≡ (cond b (is_met e c) true && met_if p cs e)) [
-  true ↦ ap (λ b. is_met e c && b) (met_filter p cs e) | false ↦ met_filter p cs e ]
+  | true ↦ ap (λ b. is_met e c && b) (met_filter p cs e)
+  | false ↦ met_filter p cs e
+]
 
 abbrev key_or_true : Assignment → Option KeyPair → Bool
 key_or_true e None = true
@@ -216,32 +219,34 @@ at_node root vars c = is_inside vars c || (root && names_none c)
 
 module _ (root : Bool) (first second : ℕ → Bool) (e : Assignment) where
   one_conjunct : (c : Expression) →
-    (cond (at_node false second c) (is_met e c) true && (cond (at_node false first c) (is_met e c) true && (key_or_true e (key_of first second c) && cond (is_join_test root first second c) (is_met e c) true)))
+      (cond (at_node false second c) (is_met e c) true && (cond (at_node false first c) (is_met e c) true && (key_or_true e (key_of first second c) && cond (is_join_test root first second c) (is_met e c) true)))
       ≡ cond (at_node root (λ v. first v || second v) c) (is_met e c) true
   one_conjunct c =
-    by (key_of first second c) refl
+      by (key_of first second c) refl
     where
-    begin : is_inside first c ≡ true → is_inside (λ v. first v || second v) c ≡ true
-    begin = inside_more first (λ v. first v || second v) (λ v h. left_more (first v) (second v) h) c
-    end : is_inside second c ≡ true → is_inside (λ v. first v || second v) c ≡ true
-    end = inside_more second (λ v. first v || second v) (λ v h. right_more (first v) (second v) h) c
-    by : (o : Option KeyPair) → key_of first second c ≡ o →
-      (cond (at_node false second c) (is_met e c) true && (cond (at_node false first c) (is_met e c) true && (key_or_true e o && cond ((is_inside (λ v. first v || second v) c && not (is_inside first c) && not (is_inside second c) && no_key o) || (root && names_none c)) (is_met e c) true)))
-        ≡ cond (at_node root (λ v. first v || second v) c) (is_met e c) true
-    by None k = table (is_met e c) (is_inside (λ v. first v || second v) c) (is_inside first c) (is_inside second c) true (root && names_none c) begin end (λ h. cc)
-    by (Some key) k =
-      let is = key_is first second e c key k in
-      ap (λ b. cond (at_node false second c) (is_met e c) true && (cond (at_node false first c) (is_met e c) true && (b && cond ((is_inside (λ v. first v || second v) c && not (is_inside first c) && not (is_inside second c) && false) || (root && names_none c)) (is_met e c) true))) (sym is.met)
-      ∙ table (is_met e c) (is_inside (λ v. first v || second v) c) (is_inside first c) (is_inside second c) false (root && names_none c) begin end (λ h. is.inside)
+      begin : is_inside first c ≡ true → is_inside (λ v. first v || second v) c ≡ true
+      begin = inside_more first (λ v. first v || second v) (λ v h. left_more (first v) (second v) h) c
+
+      end : is_inside second c ≡ true → is_inside (λ v. first v || second v) c ≡ true
+      end = inside_more second (λ v. first v || second v) (λ v h. right_more (first v) (second v) h) c
+
+      by : (o : Option KeyPair) → key_of first second c ≡ o →
+          (cond (at_node false second c) (is_met e c) true && (cond (at_node false first c) (is_met e c) true && (key_or_true e o && cond ((is_inside (λ v. first v || second v) c && not (is_inside first c) && not (is_inside second c) && no_key o) || (root && names_none c)) (is_met e c) true)))
+          ≡ cond (at_node root (λ v. first v || second v) c) (is_met e c) true
+      by None k = table (is_met e c) (is_inside (λ v. first v || second v) c) (is_inside first c) (is_inside second c) true (root && names_none c) begin end (λ h. cc)
+      by (Some key) k =
+          let is = key_is first second e c key k in
+          ap (λ b. cond (at_node false second c) (is_met e c) true && (cond (at_node false first c) (is_met e c) true && (b && cond ((is_inside (λ v. first v || second v) c && not (is_inside first c) && not (is_inside second c) && false) || (root && names_none c)) (is_met e c) true))) (sym is.met)
+          ∙ table (is_met e c) (is_inside (λ v. first v || second v) c) (is_inside first c) (is_inside second c) false (root && names_none c) begin end (λ h. is.inside)
 
   all_conjuncts : (cs : List Expression) →
-    (met_if (at_node false second) cs e && (met_if (at_node false first) cs e && (all_keys_met (keys_of first second cs) e && met_if (is_join_test root first second) cs e)))
+      (met_if (at_node false second) cs e && (met_if (at_node false first) cs e && (all_keys_met (keys_of first second cs) e && met_if (is_join_test root first second) cs e)))
       ≡ met_if (at_node root (λ v. first v || second v)) cs e
   all_conjuncts [] = refl
   all_conjuncts (c ∷ cs) =
-    ap (λ b. met_if (at_node false second) (c ∷ cs) e && (met_if (at_node false first) (c ∷ cs) e && (b && met_if (is_join_test root first second) (c ∷ cs) e))) (keys_met-with e (key_of first second c) (keys_of first second cs))
-    ∙ four _ (met_if (at_node false second) cs e) _ (met_if (at_node false first) cs e) (key_or_true e (key_of first second c)) (all_keys_met (keys_of first second cs) e) _ (met_if (is_join_test root first second) cs e)
-    ∙ (λ i. one_conjunct c i && all_conjuncts cs i)
+      ap (λ b. met_if (at_node false second) (c ∷ cs) e && (met_if (at_node false first) (c ∷ cs) e && (b && met_if (is_join_test root first second) (c ∷ cs) e))) (keys_met-with e (key_of first second c) (keys_of first second cs))
+      ∙ four _ (met_if (at_node false second) cs e) _ (met_if (at_node false first) cs e) (key_or_true e (key_of first second c)) (all_keys_met (keys_of first second cs) e) _ (met_if (is_join_test root first second) cs e)
+      ∙ (λ i. one_conjunct c i && all_conjuncts cs i)
 
 -- all tests and keys of a tree
 abbrev pub holds : Shape → Assignment → Bool
@@ -251,12 +256,12 @@ holds (join method a b keys tests) e = holds b e && (holds a e && (all_keys_met 
 
 module _ (cs : List Expression) (e : Assignment) where
   placed_join : (root : Bool) (a b : Shape) (keys : List KeyPair) (tests : List Expression) →
-    holds a e ≡ met_if (at_node false (has a)) cs e → holds b e ≡ met_if (at_node false (has b)) cs e →
-    keys ≡ keys_of (has a) (has b) cs → tests ≡ filter (is_join_test root (has a) (has b)) cs →
-    (holds b e && (holds a e && (all_keys_met keys e && all_met tests e))) ≡ met_if (at_node root (λ v. has a v || has b v)) cs e
+      holds a e ≡ met_if (at_node false (has a)) cs e → holds b e ≡ met_if (at_node false (has b)) cs e →
+      keys ≡ keys_of (has a) (has b) cs → tests ≡ filter (is_join_test root (has a) (has b)) cs →
+      (holds b e && (holds a e && (all_keys_met keys e && all_met tests e))) ≡ met_if (at_node root (λ v. has a v || has b v)) cs e
   placed_join root a b keys tests first second k t =
-    (λ i. second i && (first i && (all_keys_met (k i) e && (ap (λ ts. all_met ts e) t ∙ met_filter (is_join_test root (has a) (has b)) cs e) i)))
-    ∙ all_conjuncts root (has a) (has b) e cs
+      (λ i. second i && (first i && (all_keys_met (k i) e && (ap (λ ts. all_met ts e) t ∙ met_filter (is_join_test root (has a) (has b)) cs e) i)))
+      ∙ all_conjuncts root (has a) (has b) e cs
 
   pub placed_node : (t : Shape) → IsPlaced cs false t → holds t e ≡ met_if (at_node false (has t)) cs e
   placed_node (one tests) p = elim p [ ]

@@ -1,30 +1,27 @@
 -- The rows of a tree of a query are the choices that its test keeps.
-use Rattle.std.proofs.Common.{◌≡◌, ℕ, ◌+◌, ◌<◌, ◌≤◌, suc, zero, Bool, true, false, cond, not, ◌&&◌, ◌||◌, ◌==◌, nat_lt, List, [], ◌∷◌, ◌++◌, length, map, Option, Some, None, is_some, refl, sym, ap, ◌∙◌, subst, arith, lit≤}
-use Rattle.std.specs.List.{flat_map, filter, AllByRecursion}
+use Rattle.std.proofs.Common.{◌≡◌, ℕ, ◌+◌, ◌<◌, ◌≤◌, Bool, true, false, cond, not, ◌&&◌, ◌||◌, ◌==◌, nat_lt, List, [], ◌∷◌, ◌++◌, Option, Some, None, is_some, refl, sym, ap, ◌∙◌, subst, arith}
+use Rattle.std.specs.List.{filter, AllByRecursion}
 use Rattle.std.specs.Prelude.{⊤}
 use Rattle.std.proofs.lemmas.Bool.Decides.{nat_tests}
 use Rattle.std.specs.declared.cmp.Ordering.TheVariants.{Less, Equal, Greater}
 use Rattle.std.specs.Ordering.{nat_cmp, is_eq}
-use Rattle.lists.specs.Arranged.{one_if, occurrences, sort_by}
+use Rattle.lists.specs.Arranged.{one_if, occurrences}
 use Rattle.rows.specs.declared.value.Value.{Value}
 use Rattle.rows.specs.Values.{column_of}
-use Rattle.rel_meaning.specs.Expression.{Expression, Question}
+use Rattle.rel_meaning.specs.Expression.{Expression}
 use Rattle.rows.specs.declared.plain.LayoutColumn.{LayoutColumn}
-use Rattle.rows.specs.declared.plain.LayoutPart.{LayoutPart}
-use Rattle.rel_meaning.specs.Layouts.{column_in, FitsColumns}
+use Rattle.rel_meaning.specs.Layouts.{FitsColumns}
 use Rattle.rel_meaning.specs.Meaning.{is_true}
 use Rattle.rows.specs.declared.plain.KeyPair.{KeyPair}
 use Rattle.plan_tree.specs.declared.tree.Way.{Way}
-use Rattle.plan_tree.specs.declared.tree.Way.TheVariants as way
 use Rattle.plan_tree.specs.Assignments.{Assignment, blank, bind}
 use Rattle.plan_tree.specs.Conjuncts.{is_within, names_none, is_met, all_met}
 use Rattle.plan_tree.specs.declared.tree.Method.{Method}
-use Rattle.plan_tree.specs.Keys.{key_of, keys_of, with_key, no_key, all_keys_met}
-use Rattle.plan_tree.specs.Trees.{Shape, one, scan, join, has, scans, is_inside, is_join_test, scan_tests, IsPlaced}
-use Rattle.plan_tree.specs.Combining.{AreApart, IsOrdered, part_of, has_part, merged, over}
+use Rattle.plan_tree.specs.Keys.{key_of, keys_of, with_key, no_key}
+use Rattle.plan_tree.specs.Trees.{Shape, one, scan, join, has, scans, is_inside, is_join_test, IsPlaced}
+use Rattle.plan_tree.specs.Combining.{AreApart, IsOrdered, part_of, has_part}
 use Rattle.plan_tree.specs.Rows.{kept, probed, one_part, layout_of_tree, tree_rows}
-use Rattle.plan_tree.proofs.Sums.{total, only, Same, total_filter, total_same}
-use Rattle.plan_tree.proofs.Choosing.{sum_over, sum_over_sort}
+use Rattle.plan_tree.proofs.Sums.{Same}
 use Rattle.plan_tree.proofs.Tests.{Agree, eval_agrees, first_of_both, second_of_both}
 use Rattle.plan_tree.proofs.Placement.{met_if, at_node, holds, placed_node, key_is, within_more, left_more, right_more}
 use Rattle.plan_tree.proofs.Combined.{or_part, Distinct, part_of_merged, distinct_merged}
@@ -104,7 +101,7 @@ keys_within : (first second : ℕ → Bool) (cs : List Expression) → AllByRecu
 keys_within first second [] = tt
 keys_within first second (c ∷ cs) = by (keys_within first second cs) (key_of first second c) refl where
   by : AllByRecursion (λ key. (first key.build.var ≡ true) × (second key.probe.var ≡ true)) (keys_of first second cs) → (o : Option KeyPair) → key_of first second c ≡ o →
-    AllByRecursion (λ key. (first key.build.var ≡ true) × (second key.probe.var ≡ true)) (with_key o (keys_of first second cs))
+      AllByRecursion (λ key. (first key.build.var ≡ true) × (second key.probe.var ≡ true)) (with_key o (keys_of first second cs))
   by rest None h = rest
   by rest (Some key) h = let k = key_is first second blank c key h in ((k.build_in, k.probe_in), rest)
 
@@ -154,13 +151,14 @@ module _ (columns : ℕ → List LayoutColumn) where
   laid_join : (m : Method) (a b : Shape) (keys : List KeyPair) (tests : List Expression) → ((v : ℕ) → has a v ≡ true → has b v ≡ false) → Laid a → Laid b → Laid (join m a b keys tests)
   laid_join m a b keys tests other la lb = record {
     parts = λ v. part_of_merged (layout_of_tree columns a) (layout_of_tree columns b) (laid_apart a b other la lb) la.distinct v
-      ∙ (λ i. or_part (la.parts v i) (lb.parts v i)) ∙ by (has a v) (has b v) (columns v);
+        ∙ (λ i. or_part (la.parts v i) (lb.parts v i)) ∙ by (has a v) (has b v) (columns v);
     distinct = distinct_merged (layout_of_tree columns a) (layout_of_tree columns b) (laid_apart a b other la lb) la.distinct lb.distinct;
-    ascends = merged_ascends (layout_of_tree columns a) (layout_of_tree columns b) (laid_apart a b other la lb) la.distinct lb.ascends }
+    ascends = merged_ascends (layout_of_tree columns a) (layout_of_tree columns b) (laid_apart a b other la lb) la.distinct lb.ascends;
+  }
     where
-    by : (c d : Bool) (x : List LayoutColumn) → or_part (part_when c x) (part_when d x) ≡ part_when (c || d) x
-    by true d x = refl
-    by false d x = refl
+      by : (c d : Bool) (x : List LayoutColumn) → or_part (part_when c x) (part_when d x) ≡ part_when (c || d) x
+      by true d x = refl
+      by false d x = refl
 
   pub laid : (t : Shape) → Once t → Laid t
   laid (one tests) once = record { parts = λ v. refl; distinct = tt; ascends = tt }
@@ -169,7 +167,7 @@ module _ (columns : ℕ → List LayoutColumn) where
     by v true h = let k : w ≡ v = grind (arith, nat_tests) in ap (λ x. Some (columns x)) k
     by v false h = refl
   laid (join m a b keys tests) once =
-    laid_join m a b keys tests (not_both m a b keys tests once) (laid a (once_left m a b keys tests once)) (laid b (once_right m a b keys tests once))
+      laid_join m a b keys tests (not_both m a b keys tests once) (laid a (once_left m a b keys tests once)) (laid b (once_right m a b keys tests once))
 
   -- what holds within a tree's variables holds within its layout
   in_layout : (t : Shape) → Laid t → (tests : List Expression) → AllByRecursion (λ c. is_within (has t) c ≡ true) tests → AllByRecursion (λ c. is_within (has_part (layout_of_tree columns t)) c ≡ true) tests
@@ -210,21 +208,21 @@ module _ (columns : ℕ → List LayoutColumn) where
     tests_in root a b tests cs e = rw e (all_kept _ (is_join_test root (has a) (has b)) cs (join_within root (has a) (has b)))
 
     join_sound : (root : Bool) (m : Method) (a b : Shape) (keys : List KeyPair) (tests cs : List Expression) → Once (join m a b keys tests) → IsPlaced cs false b →
-      keys ≡ keys_of (has a) (has b) cs → tests ≡ filter (is_join_test root (has a) (has b)) cs → Sound a → Sound b → Sound (join m a b keys tests)
+        keys ≡ keys_of (has a) (has b) cs → tests ≡ filter (is_join_test root (has a) (has b)) cs → Sound a → Sound b → Sound (join m a b keys tests)
     join_sound root m a b keys tests cs once placed k t sa sb =
-      (sa, sb, free_of b cs placed (leaves a) (leaves_other a b (not_both m a b keys tests once)), rw k (keys_within (has a) (has b) cs), tests_in root a b tests cs t)
+        (sa, sb, free_of b cs placed (leaves a) (leaves_other a b (not_both m a b keys tests once)), rw k (keys_within (has a) (has b) cs), tests_in root a b tests cs t)
 
     node_sound : (cs : List Expression) (t : Shape) → Once t → IsPlaced cs false t → Reads t → Sound t
     node_sound cs (one tests) once placed reads = elim placed [ ]
     node_sound cs (scan v w tests) once placed reads = (rw placed (all_kept _ (at_node false (λ x. v == x)) cs (node_within false (λ x. v == x))), reads)
     node_sound cs (join m a b keys tests) once placed reads = join_sound false m a b keys tests cs once placed.1 placed.2 placed.3
-      (node_sound cs a (once_left m a b keys tests once) placed.0 reads.0) (node_sound cs b (once_right m a b keys tests once) placed.1 reads.1)
+        (node_sound cs a (once_left m a b keys tests once) placed.0 reads.0) (node_sound cs b (once_right m a b keys tests once) placed.1 reads.1)
 
     pub tree_sound : (cs : List Expression) (t : Shape) → Once t → IsPlaced cs true t → AllByRecursion (λ c. is_within (has t) c ≡ true) cs → Reads t → Sound t
     tree_sound cs (one tests) once placed within reads = rw placed within
     tree_sound cs (scan v w tests) once placed within reads = (rw placed (all_kept _ (at_node true (λ x. v == x)) cs (node_within true (λ x. v == x))), reads)
     tree_sound cs (join m a b keys tests) once placed within reads = join_sound true m a b keys tests cs once placed.1 placed.2 placed.3
-      (node_sound cs a (once_left m a b keys tests once) placed.0 reads.0) (node_sound cs b (once_right m a b keys tests once) placed.1 reads.1)
+        (node_sound cs a (once_left m a b keys tests once) placed.0 reads.0) (node_sound cs b (once_right m a b keys tests once) placed.1 reads.1)
 
     -- rows that stand for a tree
     abbrev pub StandFor : Shape → List (List Value) → Type 0
@@ -235,17 +233,17 @@ module _ (columns : ℕ → List LayoutColumn) where
 
     pub scan_stands : (v : ℕ) (w : Way) (tests : List Expression) → Once (scan v w tests) → Sound (scan v w tests) → StandFor (scan v w tests) (kept (one_part v (columns v)) tests (scanned v w))
     scan_stands v w tests once sound =
-      stands_same rows _ _ _ (v ∷ []) (all_met tests) sound.1 (stands_scan rows v (columns v) tests (fits v) (in_layout (scan v w tests) (laid (scan v w tests) once) tests sound.0))
+        stands_same rows _ _ _ (v ∷ []) (all_met tests) sound.1 (stands_scan rows v (columns v) tests (fits v) (in_layout (scan v w tests) (laid (scan v w tests) once) tests sound.0))
 
     pub join_stands : (m : Method) (a b : Shape) (keys : List KeyPair) (tests : List Expression) → Once (join m a b keys tests) → Sound (join m a b keys tests) →
-      (xs ys : List (List Value)) → StandFor a xs → StandFor b ys →
-      StandFor (join m a b keys tests) (kept (layout_of_tree columns (join m a b keys tests)) tests (probed (layout_of_tree columns (join m a b keys tests)) (layout_of_tree columns a) (layout_of_tree columns b) keys xs ys))
+        (xs ys : List (List Value)) → StandFor a xs → StandFor b ys →
+        StandFor (join m a b keys tests) (kept (layout_of_tree columns (join m a b keys tests)) tests (probed (layout_of_tree columns (join m a b keys tests)) (layout_of_tree columns a) (layout_of_tree columns b) keys xs ys))
     join_stands m a b keys tests once sound xs ys sa sb =
-      let other = not_both m a b keys tests once in
-      let la = laid a (once_left m a b keys tests once) in
-      let lb = laid b (once_right m a b keys tests once) in
-      let apart = laid_apart a b other la lb in
-      stands_join rows (layout_of_tree columns (join m a b keys tests)) (layout_of_tree columns a) (layout_of_tree columns b)
+        let other = not_both m a b keys tests once in
+        let la = laid a (once_left m a b keys tests once) in
+        let lb = laid b (once_right m a b keys tests once) in
+        let apart = laid_apart a b other la lb in
+        stands_join rows (layout_of_tree columns (join m a b keys tests)) (layout_of_tree columns a) (layout_of_tree columns b)
         (part_of_merged (layout_of_tree columns a) (layout_of_tree columns b) apart la.distinct) apart
         keys (keys_in_layouts a b la lb keys sound.3)
         tests (in_layout (join m a b keys tests) (laid_join m a b keys tests other la lb) tests sound.4)
@@ -256,4 +254,4 @@ module _ (columns : ℕ → List LayoutColumn) where
     tree_stands (one tests) once sound = one_stands tests sound
     tree_stands (scan v w tests) once sound = scan_stands v w tests once sound
     tree_stands (join m a b keys tests) once sound = join_stands m a b keys tests once sound _ _
-      (tree_stands a (once_left m a b keys tests once) sound.0) (tree_stands b (once_right m a b keys tests once) sound.1)
+        (tree_stands a (once_left m a b keys tests once) sound.0) (tree_stands b (once_right m a b keys tests once) sound.1)

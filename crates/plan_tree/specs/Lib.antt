@@ -10,3 +10,4 @@ pub mod Fragments
 pub mod WellFormed
 pub mod Ends
 pub mod Explained
+pub mod TreeLaws
