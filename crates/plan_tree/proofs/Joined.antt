@@ -14,7 +14,7 @@ use Rattle.plan_tree.specs.Combining.{AreApart, part_of, has_part, over, combine
 use Rattle.plan_tree.specs.Rows.{kept, keys_match, probed, one_part}
 use Rattle.plan_tree.proofs.Sums.{total, only, Same, total_map, total_flat, total_filter, total_same, total_on}
 use Rattle.plan_tree.proofs.Choosing.{sum_over, sum_over_append, sum_over_only, sum_over_same}
-use Rattle.plan_tree.proofs.Tests.{Agree, met_agrees}
+use Rattle.plan_tree.proofs.Agreement.{Agree, met_agrees}
 use Rattle.plan_tree.proofs.Combined.{or_part, over_combined, over_one}
 
 agree_over : (layout : List LayoutPart) (row : List Value) (e : Assignment) → Agree (has_part layout) (column_in layout row) (over layout row e)

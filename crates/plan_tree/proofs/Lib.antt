@@ -2,7 +2,7 @@ mod Examples
 pub mod Lines
 pub mod Sums
 pub mod Choosing
-pub mod Tests
+pub mod Agreement
 pub mod Placement
 pub mod Combined
 pub mod Ascending

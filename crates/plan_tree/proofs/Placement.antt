@@ -19,7 +19,7 @@ use Rattle.plan_tree.specs.Assignments.{Assignment}
 use Rattle.plan_tree.specs.Conjuncts.{is_within, names_none, is_met, all_met}
 use Rattle.plan_tree.specs.Keys.{Equality, column_ref, two_columns, equality_of, pair_of, pair_if, key_of, with_key, keys_of, no_key, values_match, is_key_met, all_keys_met}
 use Rattle.plan_tree.specs.Trees.{Shape, one, scan, join, has, is_inside, is_join_test, IsPlaced}
-use Rattle.plan_tree.proofs.Tests.{first_of_both, second_of_both}
+use Rattle.plan_tree.proofs.Agreement.{first_of_both, second_of_both}
 
 -- a conjunct that is `a = b` of two columns
 

@@ -23,7 +23,7 @@ use Rattle.plan_tree.specs.Trees.{Shape, has, scans, IsTree}
 use Rattle.plan_tree.specs.Rows.{layout_of_tree, tree_rows}
 use Rattle.plan_tree.proofs.Sums.{only, Same, total_map, total_filter, total_same}
 use Rattle.plan_tree.proofs.Choosing.{sum_over, sum_over_sort, sum_over_same, numbered, combos_sum}
-use Rattle.plan_tree.proofs.Tests.{conjuncts_met}
+use Rattle.plan_tree.proofs.Agreement.{conjuncts_met}
 use Rattle.plan_tree.proofs.Placement.{holds, placed_met}
 use Rattle.plan_tree.proofs.Combined.{over_blank}
 use Rattle.plan_tree.proofs.Joined.{Stands}

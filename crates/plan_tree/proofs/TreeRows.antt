@@ -22,7 +22,7 @@ use Rattle.plan_tree.specs.Trees.{Shape, one, scan, join, has, scans, is_inside,
 use Rattle.plan_tree.specs.Combining.{AreApart, IsOrdered, part_of, has_part}
 use Rattle.plan_tree.specs.Rows.{kept, probed, one_part, layout_of_tree, tree_rows}
 use Rattle.plan_tree.proofs.Sums.{Same}
-use Rattle.plan_tree.proofs.Tests.{Agree, eval_agrees, first_of_both, second_of_both}
+use Rattle.plan_tree.proofs.Agreement.{Agree, eval_agrees, first_of_both, second_of_both}
 use Rattle.plan_tree.proofs.Placement.{met_if, at_node, holds, placed_node, key_is, within_more, left_more, right_more}
 use Rattle.plan_tree.proofs.Combined.{or_part, Distinct, part_of_merged, distinct_merged}
 use Rattle.plan_tree.proofs.Ascending.{merged_ascends}

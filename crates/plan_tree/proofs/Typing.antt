@@ -17,7 +17,7 @@ use Rattle.plan_tree.specs.Assignments.{Assignment}
 use Rattle.plan_tree.specs.Conjuncts.{is_within, operands, all_met}
 use Rattle.plan_tree.specs.Combining.{part_of, values_of, row_in, over, combined}
 use Rattle.plan_tree.specs.Rows.{kept, keys_match, probed}
-use Rattle.plan_tree.proofs.Tests.{first_of_both, second_of_both}
+use Rattle.plan_tree.proofs.Agreement.{first_of_both, second_of_both}
 use Rattle.plan_tree.proofs.Combined.{or_part, Distinct}
 
 abbrev pub part_type : Option (List LayoutColumn) → ℕ → Option LayoutColumn

@@ -1,9 +1,9 @@
-ghost use Rattle.std.specs.Prelude.{◌≡◌, ◌++◌, ◌+◌, ◌^◌, ◌<◌, [], All, IfOk, OnOk, length, map};
+ghost use Rattle.std.specs.Prelude.{◌≡◌, ◌++◌, ◌+◌, ◌^◌, ◌<◌, ◌≤◌, [], All, IfOk, OnOk, length, map};
 ghost use Rattle.io_cpu_scheduler.specs.Limits.{IsLoad, IsMachine};
 ghost use Rattle.plan_tree.specs.Explained.{class_text, explained, fragment_line, fragment_lines, labelled, line_if, load_text, name_of, plan_lines, size_text, statement_lines, tree_text, way_text};
 ghost use Rattle.plan_tree.specs.Pieces.{piece_of, pieces_of};
 ghost use Rattle.plan_tree.specs.Views.{planned_of, shape_of};
-ghost use Rattle.plan_tree.specs.WellFormed.{AreWellFormed, IsTimed, IsTimedFragment};
+ghost use Rattle.plan_tree.specs.WellFormed.{IsTimed, IsTimedFragment};
 
 use crate::{Fragment, FragmentList, Plan, PlanList, Tree, Way};
 use io_cpu_scheduler::{Class, Load, class_of, solo};
@@ -203,15 +203,16 @@ fn push_plans(
 }
 
 /// The text that explains plans: for each statement, counted from 1, its cost and its tree, and then a line for each of
-/// its fragments with its class and its degree alone on the machine. With no fragments there are no such lines. An error
-/// is want of memory.
+/// its fragments with its class and its degree alone on the machine. With no fragments there are no such lines. Every list
+/// of fragments that is well formed may be explained. An error is want of memory.
 pub fn explain_text(
     alloc: Global,
     plans: &PlanList,
     fragments: &FragmentList,
     machine: &Machine,
 ) -> Result<Vec<u8>, AllocError>
-    requires fragments { AreWellFormed (pieces_of fragments.now) }
+    requires few { length fragments.now ≤ 1000 }
+    requires timed { All IsTimedFragment fragments.now }
     requires machine { IsMachine machine.now }
     ensures { IfOk result (λ text. text.items ≡ explained machine.now (pieces_of fragments.now) 0 (map planned_of plans.now)) }
 {

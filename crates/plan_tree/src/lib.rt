@@ -5,6 +5,8 @@ mod copying;
 mod explain;
 mod fragment;
 mod laws;
+#[cfg(test)]
+mod tests;
 mod tree;
 
 pub use copying::{copy_expr, copy_exprs, copy_plain, copy_query, copy_targets};
