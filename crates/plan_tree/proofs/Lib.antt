@@ -13,3 +13,5 @@ pub mod TreeMeaning
 pub mod Typing
 pub mod Resolved
 pub mod TreeAnswers
+pub mod IndexScan
+pub mod IndexReads

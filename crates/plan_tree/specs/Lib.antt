@@ -11,3 +11,4 @@ pub mod WellFormed
 pub mod Ends
 pub mod Explained
 pub mod TreeLaws
+pub mod Intervals
