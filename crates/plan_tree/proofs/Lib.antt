@@ -15,3 +15,5 @@ pub mod Resolved
 pub mod TreeAnswers
 pub mod IndexScan
 pub mod IndexReads
+pub mod Elements
+pub mod Shapes

@@ -12,3 +12,4 @@ pub mod Ends
 pub mod Explained
 pub mod TreeLaws
 pub mod Intervals
+pub mod ShapeLaws
