@@ -18,6 +18,7 @@ use Rattle.rows.specs.declared.plain.BoundOp.{BoundOp}
 use Rattle.rows.specs.declared.plain.BoundOp.TheVariants as bound
 use Rattle.plan_tree.specs.Intervals.{compare_op, interval_end, lower_end, upper_end, lower_at, upper_at}
 use Rattle.rel_meaning.specs.Eval.{holds}
+use Rattle.plan_tree.proofs.Elements.{all_more}
 use Rattle.plan_tree.proofs.Sums.{total, only, Same, total_append, total_filter}
 
 -- once the test fails it fails for all that follow
@@ -45,10 +46,6 @@ back_fails d (x ∷ xs) down = by (back_fails d xs down.1) (d x) refl where
   by : AllByRecursion (λ x. d x ≡ false) (drop (count d xs) xs) → (b : Bool) → d x ≡ b → AllByRecursion (λ x. d x ≡ false) (drop (length (cond b (x ∷ filter d xs) (filter d xs))) (x ∷ xs))
   by rest true e = rest
   by rest false e = rw (none_counted d xs (down.0 e)) (e, down.0 e)
-
-all_more : {X : Type 0} (P Q : X → Type 0) (xs : List X) → ((x : X) → P x → Q x) → AllByRecursion P xs → AllByRecursion Q xs
-all_more P Q [] step all = tt
-all_more P Q (x ∷ xs) step all = (step x all.0, all_more P Q xs step all.1)
 
 all_less : {X : Type 0} (P : X → Type 0) (xs : List X) (i j : ℕ) → i ≤ j → AllByRecursion P (drop i xs) → AllByRecursion P (drop j xs)
 all_less P xs zero zero h all = all

@@ -1,8 +1,8 @@
 -- The rows of a well-formed fragment have its shape, whatever the files tell.
-use Rattle.std.proofs.Common.{◌≡◌, ℕ, ◌+◌, ◌-◌, ◌<◌, ◌≤◌, ◌^◌, suc, zero, Bool, true, false, cond, not, ◌==◌, nat_lt, is_some, List, [], ◌∷◌, ◌++◌, length, map, take, drop, Option, Some, None, refl, sym, ap, ◌∙◌, subst, arith, inl, inr, get_or, slice_get, lit<, length-drop}
+use Rattle.std.proofs.Common.{◌≡◌, ℕ, ◌+◌, ◌<◌, suc, zero, Bool, true, false, cond, not, ◌==◌, is_some, List, [], ◌∷◌, ◌++◌, length, map, take, drop, Option, Some, None, refl, sym, ap, ◌∙◌, subst, arith, inl, inr, slice_get, lit<, length-drop}
 use Rattle.std.specs.Prelude.{IsSome, IfSome, ◌⊎◌}
 use Rattle.std.specs.Int.Signed.{nat_abs-le}
-use Rattle.std.specs.List.{flat_map, filter, AllByRecursion, range_with_len}
+use Rattle.std.specs.List.{filter, AllByRecursion, range_with_len}
 use Rattle.std.specs.Option.{option_to_list, option_and_then}
 use Rattle.std.proofs.lemmas.Bool.Decides.{nat_tests}
 use Rattle.std.proofs.lemmas.List.{length-map, length-take-le, take-append-drop}
@@ -22,7 +22,7 @@ use Rattle.lists.specs.Arranged.{distinct_by}
 use Rattle.rows.specs.Values.{arranged, row_cmp}
 use Rattle.rows.proofs.RowBits.{IsBytes}
 use Rattle.rows.proofs.RowWhole.{decodes}
-use Rattle.rel_meaning.specs.Expression.{Expression, Output}
+use Rattle.rel_meaning.specs.Expression.{Output}
 use Rattle.rel_meaning.specs.Eval.{eval}
 use Rattle.rel_meaning.specs.Layouts.{all_columns, column_in, column_type, FitsColumns, HasType, IsRowIn}
 use Rattle.rel_meaning.specs.Meaning.{bound_at, layout_column, project}
@@ -36,11 +36,11 @@ use Rattle.plan_tree.specs.declared.fragment.Source.{Source}
 use Rattle.plan_tree.specs.declared.fragment.Source.TheVariants as source
 use Rattle.plan_tree.specs.Conjuncts.{all_met}
 use Rattle.plan_tree.specs.Combining.{AreApart, ComesFirst, IsOrdered, combined, has_part, merged, part_of}
-use Rattle.plan_tree.specs.Rows.{kept, keys_match, one_part}
-use Rattle.plan_tree.specs.Pieces.{Probing, Piping, Ending, building, answering, folding, sorting, Piece}
-use Rattle.plan_tree.specs.Fragments.{EntryPlace, Stored, added, after_probe, all_rows, begun, ended, entry_item, entry_row, given, matched, out, page_items, piped, position_rows, projected, rows_in, slice_of, source_layout, through, value_at, value_of}
+use Rattle.plan_tree.specs.Rows.{keys_match, one_part}
+use Rattle.plan_tree.specs.Pieces.{Probing, Ending, building, answering, folding, sorting, Piece}
+use Rattle.plan_tree.specs.Fragments.{EntryPlace, Stored, added, after_probe, all_rows, begun, ended, entry_item, given, matched, out, page_items, piped, position_rows, projected, rows_in, slice_of, source_layout, through, value_at, value_of}
 use Rattle.plan_tree.specs.ShapeLaws.{HaveShapes, HoldsBytes}
-use Rattle.plan_tree.specs.WellFormed.{AnswersColumns, AreProbes, AreSummed, FitsTypes, HasInput, HasShape, IsAnswered, IsBuilt, IsEnd, IsFolded, IsMerge, IsPiece, IsProbe, IsSorted, IsSource, ReadsAnswer, ReadsBuilt, target_types, type_at}
+use Rattle.plan_tree.specs.WellFormed.{AnswersColumns, AreProbes, AreSummed, FitsTypes, HasShape, IsBuilt, IsEnd, IsFolded, IsMerge, IsPiece, IsProbe, IsSorted, IsSource, ReadsAnswer, ReadsBuilt, target_types, type_at}
 use Rattle.plan_tree.proofs.Ascending.{above_filter, merged_ascends}
 use Rattle.plan_tree.proofs.Combined.{Distinct, distinct_merged, part_of_merged, part_some}
 use Rattle.plan_tree.proofs.Elements.{all_distinct, all_filter, all_flat, all_map, all_more, all_slice, all_sort, flat_every}
@@ -51,7 +51,7 @@ use Rattle.plan_tree.proofs.Typing.{combined_fits, probed_fits}
 not_behind : (p : LayoutPart) (ps : List LayoutPart) → ComesFirst p ps → part_of ps p.var ≡ None
 not_behind p [] first = refl
 not_behind p (q ∷ qs) first =
-  let k : (q.var == p.var) ≡ false = (let h = first.0 in grind (arith, nat_tests)) in ap (λ b. cond b (Some q.columns) (part_of qs p.var)) k ∙ not_behind p qs first.1
+    let k : (q.var == p.var) ≡ false = (let h = first.0 in grind (arith, nat_tests)) in ap (λ b. cond b (Some q.columns) (part_of qs p.var)) k ∙ not_behind p qs first.1
 
 pub distinct_ordered : (layout : List LayoutPart) → IsOrdered layout → Distinct layout
 distinct_ordered [] up = tt
@@ -68,9 +68,10 @@ added_apart : (before after : List LayoutPart) → AreApart (added before after)
 added_apart before [] var h = absurd (let k : false ≡ true = h in cc)
 added_apart before (q ∷ qs) var h = by (added_apart before qs var) (has_part before q.var) refl h where
   last : (c : Bool) → (q.var == var) ≡ c → has_part before q.var ≡ false → (has_part (added before qs) var ≡ true → part_of before var ≡ None) →
-    is_some (cond c (Some q.columns) (part_of (added before qs) var)) ≡ true → part_of before var ≡ None
+      is_some (cond c (Some q.columns) (part_of (added before qs) var)) ≡ true → part_of before var ≡ None
   last true e there rest k = let same : q.var ≡ var = grind (arith, nat_tests) in subst (λ v. part_of before v ≡ None) same (part_some (part_of before q.var) there)
   last false e there rest k = rest k
+
   by : (has_part (added before qs) var ≡ true → part_of before var ≡ None) → (b : Bool) → has_part before q.var ≡ b → has_part (cond (not b) (q ∷ added before qs) (added before qs)) var ≡ true → part_of before var ≡ None
   by rest true e k = rest k
   by rest false e k = last (q.var == var) refl e rest k
@@ -119,23 +120,23 @@ module _ (var : ℕ) (columns : List Column) where
   found_fits : (bytes : List ℕ) → AllByRecursion (λ byte. byte < 256) bytes → (found : Option (List Value)) → row_in columns bytes ≡ found → AllByRecursion (IsRowIn (one_part var (map layout_column columns))) (option_to_list found)
   found_fits bytes small None e = tt
   found_fits bytes small (Some row) e =
-    let d = (decodes columns bytes (are_bytes bytes small)).sound in
-    let s : IfSome (Some row) (λ r. Encodes columns r bytes) = subst (λ o. IfSome o (λ r. Encodes columns r bytes)) e d in
-    (append_none (map layout_column columns) row (row_fits columns row s.is_row), tt)
+      let d = (decodes columns bytes (are_bytes bytes small)).sound in
+      let s : IfSome (Some row) (λ r. Encodes columns r bytes) = subst (λ o. IfSome o (λ r. Encodes columns r bytes)) e d in
+      (append_none (map layout_column columns) row (row_fits columns row s.is_row), tt)
 
   pub items_fit : (items : List (List ℕ)) → AllByRecursion (AllByRecursion (λ byte. byte < 256)) items → AllByRecursion (IsRowIn (one_part var (map layout_column columns))) (rows_in columns items)
   items_fit items all = all_flat (AllByRecursion (λ byte. byte < 256)) (IsRowIn (one_part var (map layout_column columns))) (λ item. option_to_list (row_in columns item)) (λ item h. found_fits item h (row_in columns item) refl) items all
 
   item_there : (items : List (List ℕ)) → AllByRecursion (AllByRecursion (λ byte. byte < 256)) items → (slot : ℕ) (o : Option (List ℕ)) → slice_get items slot ≡ o →
-    AllByRecursion (IsRowIn (one_part var (map layout_column columns))) (option_to_list (option_and_then (row_in columns) o))
+      AllByRecursion (IsRowIn (one_part var (map layout_column columns))) (option_to_list (option_and_then (row_in columns) o))
   item_there items all slot None e = tt
   item_there [] all slot (Some item) e = cc
   item_there (i ∷ is) all zero (Some item) e =
-    let same : i ≡ item = cc in found_fits item (subst (AllByRecursion (λ byte. byte < 256)) same all.0) (row_in columns item) refl
+      let same : i ≡ item = cc in found_fits item (subst (AllByRecursion (λ byte. byte < 256)) same all.0) (row_in columns item) refl
   item_there (i ∷ is) all (suc slot) (Some item) e = item_there is all.1 slot (Some item) e
 
   pub entry_fits : (stored : Stored) → HoldsBytes stored → (heap_file : ℕ) (o : Option EntryPlace) →
-    AllByRecursion (IsRowIn (one_part var (map layout_column columns))) (option_to_list (option_and_then (λ at. option_and_then (row_in columns) (entry_item stored heap_file at)) o))
+      AllByRecursion (IsRowIn (one_part var (map layout_column columns))) (option_to_list (option_and_then (λ at. option_and_then (row_in columns) (entry_item stored heap_file at)) o))
   entry_fits stored bytes heap_file None = tt
   entry_fits stored bytes heap_file (Some at) = item_there (page_items stored heap_file at.page) (bytes heap_file at.page) at.slot (slice_get (page_items stored heap_file at.page) at.slot) refl
 
@@ -149,16 +150,16 @@ types_fit (c ∷ cs) (v ∷ vs) h = (h.0, types_fit cs vs h.1)
 
 built_fits : (layout : List LayoutPart) (keys : List KeyPair) (piece : Piece) (rows : List (List Value)) → IsBuilt layout keys piece → HasShape piece.layout piece.end rows → AllByRecursion (IsRowIn layout) rows
 built_fits layout keys piece rows b h =
-  let k : AllByRecursion (IsRowIn piece.layout) rows = subst (λ e. HasShape piece.layout e rows) b.1 h in subst (λ l. AllByRecursion (IsRowIn l) rows) b.0 k
+    let k : AllByRecursion (IsRowIn piece.layout) rows = subst (λ e. HasShape piece.layout e rows) b.1 h in subst (λ l. AllByRecursion (IsRowIn l) rows) b.0 k
 
 sorted_fits : (layout : List LayoutPart) (columns : List ColumnRef) (piece : Piece) (rows : List (List Value)) → IsSorted layout columns piece → HasShape piece.layout piece.end rows → AllByRecursion (IsRowIn layout) rows
 sorted_fits layout columns piece rows b h =
-  let k : AllByRecursion (IsRowIn piece.layout) rows = subst (λ e. HasShape piece.layout e rows) b.1 h in subst (λ l. AllByRecursion (IsRowIn l) rows) b.0 k
+    let k : AllByRecursion (IsRowIn piece.layout) rows = subst (λ e. HasShape piece.layout e rows) b.1 h in subst (λ l. AllByRecursion (IsRowIn l) rows) b.0 k
 
 answered_fits : (columns : List LayoutColumn) (layout : List LayoutPart) (end : Ending) (rows : List (List Value)) → AnswersColumns columns layout end → HasShape layout end rows → AllByRecursion (FitsColumns columns) rows
 answered_fits columns layout (building keys) rows a h = elim a [ ]
 answered_fits columns layout (answering targets unique keys) rows a h =
-  all_more (FitsTypes (target_types layout targets)) (FitsColumns columns) rows (λ row k. types_fit columns row (subst (λ types. FitsTypes types row) a k)) h
+    all_more (FitsTypes (target_types layout targets)) (FitsColumns columns) rows (λ row k. types_fit columns row (subst (λ types. FitsTypes types row) a k)) h
 answered_fits columns layout (folding targets fold) rows a h = elim a [ ]
 answered_fits columns layout (sorting keys) rows a h = elim a [ ]
 
@@ -168,32 +169,32 @@ module _ (before : List Piece) (values : List (List (List Value))) (shapes : Hav
   reads_fit layout p (inr a) = let r = a.2 in answered_fits (all_columns (added layout p.layout)) r.0.layout r.0.end (value_at values p.input) r.2 (shapes p.input r.0 r.1)
 
   probe_fits : (layout : List LayoutPart) (p : Probing) → IsOrdered layout → IsProbe before layout p → (rows : List (List Value)) → AllByRecursion (IsRowIn layout) rows →
-    AllByRecursion (IsRowIn p.layout) (after_probe values layout p rows)
+      AllByRecursion (IsRowIn p.layout) (after_probe values layout p rows)
   probe_fits layout p up probe rows fits =
-    let up_added = filter_ordered (λ part. not (has_part layout part.var)) p.layout probe.ordered in
-    let apart = added_apart layout p.layout in
-    let parts = λ (v : ℕ). ap (λ l. part_of l v) probe.layouts ∙ part_of_merged (added layout p.layout) layout apart (distinct_ordered (added layout p.layout) up_added) v in
-    probed_fits p.layout (added layout p.layout) layout parts (distinct_ordered p.layout probe.ordered) p.keys p.tests (value_at values p.input) rows (reads_fit layout p probe.input) fits
+      let up_added = filter_ordered (λ part. not (has_part layout part.var)) p.layout probe.ordered in
+      let apart = added_apart layout p.layout in
+      let parts = λ (v : ℕ). ap (λ l. part_of l v) probe.layouts ∙ part_of_merged (added layout p.layout) layout apart (distinct_ordered (added layout p.layout) up_added) v in
+      probed_fits p.layout (added layout p.layout) layout parts (distinct_ordered p.layout probe.ordered) p.keys p.tests (value_at values p.input) rows (reads_fit layout p probe.input) fits
 
   through_fits : (layout : List LayoutPart) (ps : List Probing) (last : List LayoutPart) → IsOrdered layout → AreProbes before layout ps last → (rows : List (List Value)) → AllByRecursion (IsRowIn layout) rows →
-    AllByRecursion (IsRowIn last) (through values layout ps rows)
+      AllByRecursion (IsRowIn last) (through values layout ps rows)
   through_fits layout [] last up probes rows fits = subst (λ l. AllByRecursion (IsRowIn l) rows) (sym probes) fits
   through_fits layout (p ∷ ps) last up probes rows fits =
-    through_fits p.layout ps last probes.0.ordered probes.1 (after_probe values layout p rows) (probe_fits layout p up probes.0 rows fits)
+      through_fits p.layout ps last probes.0.ordered probes.1 (after_probe values layout p rows) (probe_fits layout p up probes.0 rows fits)
 
   matched_fit : (left right : ℕ) (keys : List KeyPair) (left_layout right_layout : List LayoutPart) → IsMerge before left right keys left_layout right_layout → (p : ℕ) →
-    AllByRecursion (IsRowIn (merged left_layout right_layout)) (matched left_layout right_layout keys (slice_of p (value_at values left)) (value_at values right))
+      AllByRecursion (IsRowIn (merged left_layout right_layout)) (matched left_layout right_layout keys (slice_of p (value_at values left)) (value_at values right))
   matched_fit left right keys left_layout right_layout m p =
-    let l = m.left_input in
-    let r = m.right_input in
-    let ld = distinct_ordered left_layout m.left_ordered in
-    let parts = part_of_merged left_layout right_layout m.apart ld in
-    let distinct = distinct_merged left_layout right_layout m.apart ld (distinct_ordered right_layout m.right_ordered) in
-    let left_fits = sorted_fits left_layout (map (λ key. key.build) keys) l.0 (value_at values left) l.2 (shapes left l.0 l.1) in
-    let right_fits = sorted_fits right_layout (map (λ key. key.probe) keys) r.0 (value_at values right) r.2 (shapes right r.0 r.1) in
-    all_flat (IsRowIn left_layout) (IsRowIn (merged left_layout right_layout)) _
+      let l = m.left_input in
+      let r = m.right_input in
+      let ld = distinct_ordered left_layout m.left_ordered in
+      let parts = part_of_merged left_layout right_layout m.apart ld in
+      let distinct = distinct_merged left_layout right_layout m.apart ld (distinct_ordered right_layout m.right_ordered) in
+      let left_fits = sorted_fits left_layout (map (λ key. key.build) keys) l.0 (value_at values left) l.2 (shapes left l.0 l.1) in
+      let right_fits = sorted_fits right_layout (map (λ key. key.probe) keys) r.0 (value_at values right) r.2 (shapes right r.0 r.1) in
+      all_flat (IsRowIn left_layout) (IsRowIn (merged left_layout right_layout)) _
       (λ a fa. all_map (IsRowIn right_layout) (IsRowIn (merged left_layout right_layout)) (λ b. combined (merged left_layout right_layout) left_layout right_layout a b)
-        (λ b fb. combined_fits (merged left_layout right_layout) left_layout right_layout parts distinct a b fa fb) _ (all_filter (IsRowIn right_layout) (λ b. keys_match left_layout right_layout keys a b) (value_at values right) right_fits))
+      (λ b fb. combined_fits (merged left_layout right_layout) left_layout right_layout parts distinct a b fa fb) _ (all_filter (IsRowIn right_layout) (λ b. keys_match left_layout right_layout keys a b) (value_at values right) right_fits))
       _ (all_slice (IsRowIn left_layout) p (value_at values left) left_fits)
 
   module _ (stored : Stored) (bytes : HoldsBytes stored) where
@@ -208,13 +209,13 @@ module _ (before : List Piece) (values : List (List (List Value))) (shapes : Hav
     source_ordered (source.Heap var file) columns positions s = (tt, tt)
     source_ordered (source.Index var index heap_file interval) columns positions s = (tt, tt)
     source_ordered (source.Merge left right keys left_layout right_layout) columns positions s =
-      merged_ascends left_layout right_layout s.0.apart (distinct_ordered left_layout s.0.left_ordered) s.0.right_ordered
+        merged_ascends left_layout right_layout s.0.apart (distinct_ordered left_layout s.0.left_ordered) s.0.right_ordered
 
     -- the rows of a position before the end
     pub piped_fits : (piece : Piece) → IsPiece before piece → (p : ℕ) → AllByRecursion (IsRowIn piece.layout) (piped stored values piece.pipe p)
     piped_fits piece is p =
-      let layout = source_layout piece.pipe.source piece.pipe.columns in
-      through_fits layout piece.pipe.probes piece.layout (source_ordered piece.pipe.source piece.pipe.columns piece.positions is.source) is.probes _
+        let layout = source_layout piece.pipe.source piece.pipe.columns in
+        through_fits layout piece.pipe.probes piece.layout (source_ordered piece.pipe.source piece.pipe.columns piece.positions is.source) is.probes _
         (all_filter (IsRowIn layout) (λ row. all_met piece.pipe.tests (column_in layout row)) (begun stored values piece.pipe.source piece.pipe.columns p) (begun_fits piece.pipe.source piece.pipe.columns piece.positions is.source p))
 
 -- ---- ends
@@ -227,7 +228,7 @@ RowFits layout (folding targets fold) row = FitsTypes (target_types layout targe
 RowFits layout (sorting keys) row = IsRowIn layout row
 
 targets_fit : (layout : List LayoutPart) (row : List Value) → IsRowIn layout row → (targets : List Output) → AllByRecursion (λ type. IsSome type) (target_types layout targets) →
-  FitsTypes (target_types layout targets) (project targets (column_in layout row))
+    FitsTypes (target_types layout targets) (project targets (column_in layout row))
 targets_fit layout row fits [] typed = tt
 targets_fit layout row fits (t ∷ ts) typed = by (targets_fit layout row fits ts typed.1) (type_at layout t) refl typed.0 where
   by : FitsTypes (target_types layout ts) (project ts (column_in layout row)) → (o : Option LayoutColumn) → type_at layout t ≡ o → IsSome o → FitsTypes (o ∷ target_types layout ts) (eval t.expr (column_in layout row) ∷ project ts (column_in layout row))
@@ -287,19 +288,20 @@ drop_fits (suc n) (Some c ∷ types) (v ∷ vs) fits = drop_fits n types vs fits
 
 fold_row : (layout : List LayoutPart) (targets : List Output) (fold : Fold) → IsFolded layout targets fold → (row : List Value) → FitsTypes (target_types layout targets) row → IsFoldRow fold row
 fold_row layout targets fold is row fits =
-  let wide : length row ≡ length targets = types_length (target_types layout targets) row fits ∙ length-map targets (type_at layout) in
-  let front : length (take fold.groups row) ≡ fold.groups = length-take-le fold.groups row (let w = is.width in omega arith) in
-  record {
-    groups = take fold.groups row;
-    values = drop fold.groups row;
-    width = front;
-    whole = sym (take-append-drop fold.groups row);
-    ops = ops_fit fold.ops (drop fold.groups (target_types layout targets)) (drop fold.groups row) is.sums (drop_fits fold.groups (target_types layout targets) row fits)
-      (length-drop fold.groups row ∙ (let w = is.width in omega arith)) }
+    let wide : length row ≡ length targets = types_length (target_types layout targets) row fits ∙ length-map targets (type_at layout) in
+    let front : length (take fold.groups row) ≡ fold.groups = length-take-le fold.groups row (let w = is.width in omega arith) in
+    record {
+      groups = take fold.groups row;
+      values = drop fold.groups row;
+      width = front;
+      whole = sym (take-append-drop fold.groups row);
+      ops = ops_fit fold.ops (drop fold.groups (target_types layout targets)) (drop fold.groups row) is.sums (drop_fits fold.groups (target_types layout targets) row fits)
+          (length-drop fold.groups row ∙ (let w = is.width in omega arith));
+    }
 
 folded_shape : (layout : List LayoutPart) (targets : List Output) (fold : Fold) → IsFolded layout targets fold → (rows : List (List Value)) → AllByRecursion (FitsTypes (target_types layout targets)) rows → IsPartial fold (partial fold rows)
 folded_shape layout targets fold is rows fits =
-  record { rows = rows; fit = all_more (FitsTypes (target_types layout targets)) (IsFoldRow fold) rows (fold_row layout targets fold is) fits; same = refl }
+    record { rows = rows; fit = all_more (FitsTypes (target_types layout targets)) (IsFoldRow fold) rows (fold_row layout targets fold is) fits; same = refl }
 
 given_shape : (layout : List LayoutPart) (end : Ending) → IsEnd layout end → (rows : List (List Value)) → AllByRecursion (RowFits layout end) rows → HasShape layout end (given end rows)
 given_shape layout (building keys) is rows fits = fits
