@@ -17,3 +17,4 @@ pub mod IndexScan
 pub mod IndexReads
 pub mod Elements
 pub mod Shapes
+pub mod Positions

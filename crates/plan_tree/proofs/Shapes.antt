@@ -102,7 +102,7 @@ row_fits [] (v ∷ vs) h = elim h [ ]
 row_fits (c ∷ cs) [] h = elim h [ ]
 row_fits (c ∷ cs) (v ∷ vs) h = (value_fits c v h.0, row_fits cs vs h.1)
 
-are_bytes : (bytes : List ℕ) → AllByRecursion (λ byte. byte < 256) bytes → IsBytes bytes
+pub are_bytes : (bytes : List ℕ) → AllByRecursion (λ byte. byte < 256) bytes → IsBytes bytes
 are_bytes [] all i = lit< tt
 are_bytes (b ∷ bs) all zero = all.0
 are_bytes (b ∷ bs) all (suc i) = are_bytes bs all.1 i
