@@ -35,10 +35,10 @@ use Rattle.plan_tree.specs.Fragments.{Stored, values_of, value_at, rows_in}
 abbrev column_named : List ℕ → Bool → Column
 column_named name nullable = record { name = name; col_type = col.Int4; nullable = nullable }
 
-abbrev emp_columns : List Column
+abbrev pub emp_columns : List Column
 emp_columns = column_named (codes "eno") false ∷ column_named (codes "dept") true ∷ []
 
-abbrev dept_columns : List Column
+abbrev pub dept_columns : List Column
 dept_columns = column_named (codes "dno") true ∷ column_named (codes "floor") false ∷ []
 
 abbrev emp_rows : List (List Value)
@@ -104,10 +104,10 @@ files = record { pages = pages; entries = λ file. record { page = 0; slot = 1 }
 read_again : rows_in dept_columns (map (row_bytes dept_columns) dept_rows) ≡ dept_rows
 read_again = refl
 
-abbrev emp_layout : List LayoutPart
+abbrev pub emp_layout : List LayoutPart
 emp_layout = one_part 0 (map layout_column emp_columns)
 
-abbrev dept_layout : List LayoutPart
+abbrev pub dept_layout : List LayoutPart
 dept_layout = one_part 1 (map layout_column dept_columns)
 
 abbrev scanning : Source → List Column → List LayoutPart → Ending → ℕ → Piece
@@ -126,7 +126,7 @@ answering_end = answering question.targets question.unique question.keys
 
 -- employees are built by their department, and departments probe them
 
-abbrev hash_pieces : Source → ℕ → List Piece
+abbrev pub hash_pieces : Source → ℕ → List Piece
 hash_pieces from positions =
     scanning (source.Heap 0 0) emp_columns emp_layout (building (key.build ∷ [])) 2
     ∷ record {
@@ -148,7 +148,7 @@ index_value = refl
 
 -- both sides are sorted by their departments and merged
 
-abbrev merge_pieces : List Piece
+abbrev pub merge_pieces : List Piece
 merge_pieces =
     scanning (source.Heap 0 0) emp_columns emp_layout (sorting (record { column = 1; down = false } ∷ [])) 2
     ∷ scanning (source.Heap 1 1) dept_columns dept_layout (sorting (record { column = 0; down = false } ∷ [])) 1
@@ -167,7 +167,7 @@ kept_layout = one_part 0 (layout_column (column_named (codes "floor") true) ∷ 
 abbrev counted : Fold
 counted = record { groups = 0; ops = Count ∷ []; places = Op 0 ∷ [] }
 
-abbrev kept_pieces : List Piece
+abbrev pub kept_pieces : List Piece
 kept_pieces =
     scanning (source.Heap 1 1) dept_columns dept_layout (answering ((record { name = codes "floor"; expr = column 1 1 }) ∷ []) true []) 1
     ∷ (

@@ -1,4 +1,5 @@
-mod Examples
+pub mod Examples
+mod FormedExamples
 pub mod Lines
 pub mod Sums
 pub mod Choosing
