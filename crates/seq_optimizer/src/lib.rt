@@ -1,0 +1,12 @@
+//! The plan of a query: estimates, costs, and the tree that costs least.
+#![tactic(auto)]
+
+mod bounds;
+mod conjuncts;
+mod naming;
+mod stats;
+
+pub use stats::{VarStats, VarStatsList};
+
+/// No memory is left.
+pub type NoMemory = std::alloc::AllocError;
