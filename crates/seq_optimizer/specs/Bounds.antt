@@ -110,3 +110,11 @@ IsFitNumber other = ⊤
 abbrev pub IsFitConstant : Expression → Type 0
 IsFitConstant (ex.negate e) = IsFitNumber e
 IsFitConstant other = ⊤
+
+abbrev pub IsFitIn : Option Comparison → Type 0
+IsFitIn None = ⊤
+IsFitIn (Some c) = IsFitConstant c.constant
+
+-- the constant of a comparison has its value in 64 bits
+abbrev pub IsFitComparison : Expression → Type 0
+IsFitComparison e = IsFitIn (comparison_of e)

@@ -11,28 +11,15 @@ use Rattle.plan_tree.specs.declared.tree.Method.TheVariants as method
 use Rattle.plan_tree.specs.Conjuncts.{conjuncts}
 use Rattle.plan_tree.specs.Trees.{Shape, one, scan, join, has, IsTreeOf}
 use Rattle.seq_optimizer.specs.declared.stats.VarStats.{VarStats}
-use Rattle.seq_optimizer.specs.Estimates.{limit, set_size, variable_sizes}
-
--- the stats of a variable
-abbrev pub pages_at : List VarStats → ℕ → ℕ
-pages_at stats v = slice_index_or (map (λ s. s.pages) stats) v 0
-
-abbrev pub rows_at : List VarStats → ℕ → ℕ
-rows_at stats v = slice_index_or (map (λ s. s.rows) stats) v 0
-
-abbrev pub height_at : List VarStats → ℕ → ℕ
-height_at stats v = slice_index_or (map (λ s. s.height) stats) v 0
-
-abbrev pub interval_at : List VarStats → ℕ → Option Interval
-interval_at stats v = slice_index_or (map (λ s. s.interval) stats) v None
+use Rattle.seq_optimizer.specs.Estimates.{limit, set_size, stats_at, variable_sizes}
 
 abbrev pub index_cost : ℕ → ℕ → ℕ
 index_cost entries height = min (8 * (entries + height) + entries) limit
 
 -- the cost of the scan of a variable
 abbrev pub scan_cost : List VarStats → ℕ → Way → ℕ
-scan_cost stats v way.Heap = min (8 * pages_at stats v + rows_at stats v) limit
-scan_cost stats v (way.Index i) = index_cost (i.upto - i.from) (height_at stats v)
+scan_cost stats v way.Heap = min (8 * (stats_at stats v).pages + (stats_at stats v).rows) limit
+scan_cost stats v (way.Index i) = index_cost (i.upto - i.from) (stats_at stats v).height
 
 -- how many binary digits a number has, none for 0
 abbrev pub digits : ℕ → ℕ
@@ -59,7 +46,7 @@ cost cs stats (join kind a b keys tests) =
 -- a way to read the variable: an index scan has the interval that the stats hold for it
 abbrev pub CanRead : List VarStats → ℕ → Way → Type 0
 CanRead stats v way.Heap = ⊤
-CanRead stats v (way.Index i) = interval_at stats v ≡ Some i
+CanRead stats v (way.Index i) = (stats_at stats v).interval ≡ Some i
 
 -- each index scan of the tree has the interval that the stats hold for its variable
 abbrev pub FitsStats : List VarStats → Shape → Type 0
@@ -84,7 +71,7 @@ HasFirstSide cs stats m root t number = (kind : Method) (a b : Shape) (keys : Li
 
 -- the heap scan, unless the stats hold an interval and the index scan with it costs less
 abbrev pub IsChosenWay : List VarStats → ℕ → Way → Type 0
-IsChosenWay stats v way.Heap = IfSome (interval_at stats v) (λ i. scan_cost stats v way.Heap ≤ scan_cost stats v (way.Index i))
+IsChosenWay stats v way.Heap = IfSome (stats_at stats v).interval (λ i. scan_cost stats v way.Heap ≤ scan_cost stats v (way.Index i))
 IsChosenWay stats v (way.Index i) = scan_cost stats v (way.Index i) < scan_cost stats v way.Heap
 
 -- the chosen tree of its variables: a least one, of these one whose first side has the smallest number, and its sides are the chosen trees of their variables
@@ -96,6 +83,16 @@ IsChosen cs stats m root (join kind a b keys tests) =
 
 abbrev pub IsInterval : Interval → Type 0
 IsInterval i = i.from ≤ i.upto
+
+abbrev pub IsWayInterval : Way → Type 0
+IsWayInterval way.Heap = ⊤
+IsWayInterval (way.Index i) = IsInterval i
+
+-- no interval of the tree ends before it begins
+abbrev pub HasIntervals : Shape → Type 0
+HasIntervals (one tests) = ⊤
+HasIntervals (scan v how tests) = IsWayInterval how
+HasIntervals (join kind a b keys tests) = HasIntervals a × HasIntervals b
 
 -- what a query and its stats keep: at most six variables, an entry of stats for each, and no interval that ends before it begins
 pub record CanPlan (q : Question) (stats : List VarStats) : Type 0 where

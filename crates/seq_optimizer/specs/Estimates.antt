@@ -34,12 +34,13 @@ reduced rows by = if rows == 0 then 0 else max 1 (rows / by)
 abbrev pub variable_size : List Expression → ℕ → ℕ → ℕ
 variable_size cs v rows = reduced rows (divisor (length (filter (is_fixing_alone v) cs)) (length (filter (is_other_alone v) cs)))
 
-abbrev pub rows_at : List VarStats → ℕ → ℕ
-rows_at stats v = slice_index_or (map (λ s. s.rows) stats) v 0
+-- the stats of a variable; those that aren't there say nothing
+abbrev pub stats_at : List VarStats → ℕ → VarStats
+stats_at stats v = slice_index_or stats v (record { pages = 0; rows = 0; interval = None; height = 0 })
 
 -- the estimate of each variable
 abbrev pub variable_sizes : List Expression → List VarStats → List ℕ
-variable_sizes cs stats = map (λ v. variable_size cs v (rows_at stats v)) (range_with_len 0 (length stats))
+variable_sizes cs stats = map (λ v. variable_size cs v (stats_at stats v).rows) (range_with_len 0 (length stats))
 
 abbrev pub size_at : List ℕ → ℕ → ℕ
 size_at sizes v = slice_index_or sizes v 0
@@ -79,3 +80,22 @@ size_by cs sizes set (n ∷ m ∷ ns) = several_size cs sizes set (n ∷ m ∷ n
 -- the estimate of a set of variables
 abbrev pub set_size : List Expression → List ℕ → (ℕ → Bool) → ℕ
 set_size cs sizes set = size_by cs sizes set (sizes_in set sizes)
+
+-- what a conjunct makes the rows of a variable fewer by
+abbrev pub factor_of : ℕ → Expression → ℕ
+factor_of v c = if is_alone v c then (if is_fixing c then 10 else 3) else 1
+
+-- one more conjunct in a divisor
+abbrev pub narrowed : ℕ → ℕ → Expression → ℕ
+narrowed v by c = min (by * factor_of v c) (2 ^ 64)
+
+-- one more conjunct in the estimate of a set
+abbrev pub divided_if : (ℕ → Bool) → List ℕ → ℕ → Expression → ℕ
+divided_if set sizes n c = if is_joining set (length sizes) c then divided sizes n c else n
+
+abbrev pub last_of : List ℕ → ℕ
+last_of ns = fold (λ a n. n) 0 ns
+
+-- the estimates of those variables of a set that stand before a place
+abbrev pub sizes_below : (ℕ → Bool) → List ℕ → ℕ → List ℕ
+sizes_below set sizes n = map (size_at sizes) (filter set (range_with_len 0 n))

@@ -1,5 +1,7 @@
 pub mod Bounds
 pub mod Compared
 pub mod Estimates
+pub mod Factors
 pub mod Sets
 pub mod Costs
+pub mod Costed

@@ -1,14 +1,15 @@
-ghost use Rattle.std.specs.Prelude.{◌≡◌, IfOk, Some, map, IfSome, IsSome, IsTrue, All};
+ghost use Rattle.std.specs.Prelude.{◌≡◌, ◌++◌, ◌∷◌, [], IfOk, OnOk};
 ghost use Rattle.std.specs.Option.{option_map};
-ghost use Rattle.rel_meaning.specs.Expression.{expression_of};
+ghost use Rattle.rel_meaning.specs.Expression.{expression_of, question_of};
 ghost use Rattle.rel_meaning.specs.Typing.{type_of};
 ghost use Rattle.rows.specs.declared.plain.LayoutColumn.{LayoutColumn};
 ghost use Rattle.plan_tree.specs.Keys.{column_ref};
 ghost use Rattle.plan_tree.specs.Conjuncts.{conjuncts};
-ghost use Rattle.seq_optimizer.specs.Bounds.{bound_of, bound_op, bounds_of, compared, comparison_of, constant_value, signed_value, IsFitNumber, IsFitConstant, is_constant, is_fixing, is_number, turned, IsTyped};
+ghost use Rattle.seq_optimizer.specs.Bounds.{bound_of, bound_op, bounds_of, compared, comparison_of, constant_value, signed_value, IsFitNumber, IsFitConstant, IsFitComparison, is_constant, is_fixing, is_number, turned, IsTyped};
 ghost use Rattle.seq_optimizer.specs.Compared.{compared_to};
 
 use crate::NoMemory;
+use crate::conjuncts::conjuncts;
 use lists::{Duplicate, Sequence};
 use rel_meaning::{CompareOp, Expr, Query};
 use rows::{Bound, BoundList, BoundOp, ColumnRef, Value};
@@ -141,4 +142,59 @@ fn constant_value(alloc: Global, expr: &Expr) -> Result<Value, NoMemory>
         Expr::Negate(operand) => Ok(signed_value(operand)),
         _ => Ok(Value::Null),
     }
+}
+
+// The bound that a conjunct sets to a column of a variable, if it sets one.
+fn bound_of(alloc: Global, conjunct: &Expr, var: u32, col: u32) -> Result<Option<Bound>, NoMemory>
+    requires { IsFitComparison (expression_of conjunct.now) }
+    ensures { IfOk result (λ bound. bound ≡ bound_of var col (expression_of conjunct.now)) }
+{
+    let Some(comparison) = comparison_of(conjunct) else {
+        return Ok(None);
+    };
+    if comparison.column.var != var || comparison.column.col != col {
+        return Ok(None);
+    }
+    let Some(op) = bound_op(comparison.op) else {
+        return Ok(None);
+    };
+    let value = constant_value(alloc, comparison.constant)?;
+    Ok(Some(Bound { op, value }))
+}
+
+// Adds the bound that a conjunct sets to a column of a variable.
+fn put_bound(
+    alloc: Global,
+    conjunct: &Expr,
+    var: u32,
+    col: u32,
+    out: &mut Vec<Bound>,
+) -> Result<(), NoMemory>
+    requires { IsFitComparison (expression_of conjunct.now) }
+    ensures { OnOk result (out.new.items ≡ out.old.items ++ bounds_of var col (expression_of conjunct.now ∷ [])) }
+{
+    if let Some(bound) = bound_of(alloc, conjunct, var, col)? {
+        out.push(bound)?;
+    }
+    Ok(())
+}
+
+/// The bounds that the conjuncts of a query set to a column of a range variable, in the order of the text. The value of
+/// each is that of the constant, and the operator is turned round where the constant stands first. An `Err` is want of
+/// memory.
+pub fn bounds_of(
+    alloc: Global,
+    query: &Query,
+    var: u32,
+    column: u32,
+) -> Result<BoundList, NoMemory>
+    requires { IsTyped (question_of query.now).test }
+    ensures { IfOk result (λ bounds. bounds ≡ bounds_of var column (conjuncts (question_of query.now).test)) }
+{
+    let conjuncts = conjuncts(alloc, &query.test)?;
+    let mut bounds = Vec::new(alloc);
+    for conjunct in &conjuncts {
+        put_bound(alloc, conjunct, var, column, &mut bounds)?;
+    }
+    Ok(Sequence::from_vec(bounds))
 }

@@ -3,9 +3,13 @@
 
 mod bounds;
 mod conjuncts;
+mod costs;
+mod estimates;
 mod naming;
 mod stats;
 
+pub use bounds::bounds_of;
+pub use costs::{cost, estimate};
 pub use stats::{VarStats, VarStatsList};
 
 /// No memory is left.

@@ -1,5 +1,5 @@
 //! Which variables an expression names.
-ghost use Rattle.std.specs.Prelude.{◌≡◌, ◌<◌, ◌^◌};
+ghost use Rattle.std.specs.Prelude.{◌≡◌, ◌<◌, ◌^◌, ◌-◌, nat_lt};
 ghost use Rattle.std.specs.List.{list_any, range_with_len};
 ghost use Rattle.rel_meaning.specs.Expression.{expression_of};
 ghost use Rattle.plan_tree.specs.Conjuncts.{is_within, names_none};
@@ -15,6 +15,15 @@ pub(crate) fn set_of(var: u32) -> u32
     ensures { result ≡ 2 ^ var }
 {
     1 << var
+}
+
+// The number of the set of so many variables, from the first on.
+pub(crate) fn first_vars(count: u32) -> u32
+    requires { count < 32 }
+    ensures value { result ≡ 2 ^ count - 1 }
+    ensures set { in_set result ≡ (λ v. nat_lt v count) }
+{
+    set_of(count) - 1
 }
 
 // Whether a variable is in a set.
