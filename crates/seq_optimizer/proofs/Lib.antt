@@ -1,7 +1,12 @@
 pub mod Caps
 pub mod Costed
+pub mod Filled
 pub mod Fitting
+pub mod Least
+pub mod Merging
+pub mod Said
 pub mod Scanned
 pub mod Sets
 pub mod Sizes
+pub mod Splits
 pub mod Walks

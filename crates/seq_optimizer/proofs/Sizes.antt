@@ -1,13 +1,16 @@
 -- Estimates as the code finds them.
-use Rattle.std.proofs.Common.{◌≡◌, ◌∙◌, sym, refl, ap, arith, ℕ, zero, suc, ◌+◌, ◌*◌, ◌^◌, ◌<◌, ◌≤◌, min, max, Bool, true, false, not, ◌&&◌, ◌==◌, cond, List, [], ◌∷◌, ◌++◌, map, filter, fold, length, append-nil, take, set}
+use Rattle.std.proofs.Common.{◌≡◌, ◌∙◌, sym, refl, ap, arith, ℕ, zero, suc, ◌+◌, ◌*◌, ◌^◌, ◌<◌, ◌≤◌, min, max, Bool, true, false, not, ◌&&◌, ◌==◌, cond, List, [], ◌∷◌, ◌++◌, map, filter, fold, length, append-nil, take, set, get_or}
 use Rattle.std.specs.List.{range_with_len}
 use Rattle.std.proofs.lemmas.List.{map-id, map-append, take_more_set}
 use Rattle.std.proofs.lemmas.List.Elements.{filter-append}
-use Rattle.std.proofs.lemmas.List.FromFn.{map-range_with_len_more}
+use Rattle.std.proofs.lemmas.List.FromFn.{get_or-map-range_with_len, length-map-range_with_len, map-range_with_len_more}
 use Rattle.std.proofs.Math.Nat.{pow-suc, pow-zero, mul-le-mul}
 use Rattle.rel_meaning.specs.Expression.{Expression}
 use Rattle.seq_optimizer.specs.Bounds.{is_fixing}
-use Rattle.seq_optimizer.specs.Estimates.{divided, divided_if, divisor, factor_of, is_alone, is_fixing_alone, is_joining, is_other_alone, narrowed, size_at, sizes_below}
+use Rattle.seq_optimizer.specs.Estimates.{divided, divided_if, divisor, factor_of, is_alone, is_fixing_alone, is_joining, is_other_alone, narrowed, set_size, size_at, sizes_below, variable_sizes}
+use Rattle.seq_optimizer.specs.declared.stats.VarStats.{VarStats}
+use Rattle.seq_optimizer.specs.Sets.{in_set}
+use Rattle.seq_optimizer.specs.Tables.{all_sizes}
 use Rattle.seq_optimizer.proofs.Caps.{cap_times}
 
 pos : (n a : ℕ) → 1 ≤ n → 1 ≤ n ^ a
@@ -74,3 +77,10 @@ divisor_some a b =
 pub filled_more : (f : ℕ → ℕ) (xs : List ℕ) (i y : ℕ) → i < length xs → take i xs ≡ map f (range_with_len 0 i) → y ≡ f i → take (i + 1) (set xs i y) ≡ map f (range_with_len 0 (i + 1))
 filled_more f xs i y lt before e =
     take_more_set xs i y lt ∙ ap (λ ys. ys ++ y ∷ []) before ∙ ap (λ (z : ℕ). map f (range_with_len 0 i) ++ z ∷ []) e ∙ sym (map-range_with_len_more f 0 i i (omega arith))
+
+-- the estimate of a set, read at its number
+pub size_read : (cs : List Expression) (stats : List VarStats) (sizes : List ℕ) (i : ℕ) → sizes ≡ all_sizes cs stats → i < 2 ^ length stats → get_or sizes i 0 ≡ set_size cs (variable_sizes cs stats) (in_set i)
+size_read cs stats sizes i is lt = ap (λ ns. get_or ns i 0) is ∙ get_or-map-range_with_len (λ (s : ℕ). set_size cs (variable_sizes cs stats) (in_set s)) 0 (2 ^ length stats) i i 0 lt (omega arith)
+
+pub sizes_many : (cs : List Expression) (stats : List VarStats) (sizes : List ℕ) → sizes ≡ all_sizes cs stats → length sizes ≡ 2 ^ length stats
+sizes_many cs stats sizes is = ap length is ∙ length-map-range_with_len (λ (s : ℕ). set_size cs (variable_sizes cs stats) (in_set s)) 0 (2 ^ length stats)

@@ -5,8 +5,10 @@ mod bounds;
 mod conjuncts;
 mod costs;
 mod estimates;
+mod keys;
 mod naming;
 mod stats;
+mod table;
 
 pub use bounds::bounds_of;
 pub use costs::{cost, estimate};
