@@ -16,7 +16,10 @@ pub fn copy_expr(alloc: Global, expr: &Expr) -> Result<Expr, AllocError>
         Expr::Number(number) => Expr::Number(*number),
         Expr::Word(text) => Expr::Word(text.duplicate(alloc)?),
         Expr::Truth(truth) => Expr::Truth(*truth),
-        Expr::Column { var, col } => Expr::Column { var: *var, col: *col },
+        Expr::Column { var, col } => Expr::Column {
+            var: *var,
+            col: *col,
+        },
         Expr::Negate(inner) => Expr::Negate(copy_boxed(alloc, inner)?),
         Expr::Not(inner) => Expr::Not(copy_boxed(alloc, inner)?),
         Expr::Arith { op, left, right } => Expr::Arith {

@@ -93,3 +93,58 @@ pub struct Fragment {
 
 /// The fragments of a script. An input of a fragment is given by its number in this list.
 pub type FragmentList = Sequence<Fragment>;
+
+impl Fragment {
+    ghost use Rattle.std.specs.Prelude.{◌≡◌};
+    ghost use Rattle.plan_tree.specs.Ends.{IsAnswer, fragment_with, is_by_entries};
+
+    /// Whether the positions are entries of an index or slices of a merge.
+    pub fn by_entries(&self) -> bool
+        ensures { result ≡ is_by_entries self.now.pipe.source }
+    {
+        match &self.pipe.source {
+            Source::One | Source::Heap { .. } => false,
+            Source::Index { .. } | Source::Merge { .. } => true,
+        }
+    }
+
+    /// The same fragment, but that the rows of its targets' values are folded. It ends with an answer.
+    pub fn with_fold(self, fold: Fold) -> Fragment
+        requires { IsAnswer self.end }
+        ensures { result ≡ fragment_with self fold }
+    {
+        let Fragment {
+            statement,
+            pipe,
+            end,
+            layout,
+            positions,
+            pages,
+            time,
+        } = self;
+        Fragment {
+            statement,
+            pipe,
+            end: end.with_fold(fold),
+            layout,
+            positions,
+            pages,
+            time,
+        }
+    }
+}
+
+impl End {
+    ghost use Rattle.std.specs.Prelude.{◌≡◌};
+    ghost use Rattle.plan_tree.specs.Ends.{IsAnswer, end_with};
+
+    fn with_fold(self, fold: Fold) -> End
+        requires { IsAnswer self }
+        ensures { result ≡ end_with self fold }
+    {
+        match self {
+            End::Answer { targets, .. } => End::Fold { targets, fold },
+            End::Build { .. } | End::Fold { .. } | End::Sort { .. } => unreachable!(),
+        }
+    }
+}
