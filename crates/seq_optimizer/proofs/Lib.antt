@@ -4,6 +4,7 @@ pub mod Filled
 pub mod Fitting
 pub mod Least
 pub mod Merging
+pub mod PlacedJoins
 pub mod Said
 pub mod Scanned
 pub mod Sets

@@ -2,6 +2,7 @@ pub mod Bounds
 pub mod Compared
 pub mod Estimates
 pub mod Factors
+pub mod Placed
 pub mod Sets
 pub mod Tables
 pub mod Costs

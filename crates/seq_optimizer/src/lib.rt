@@ -7,6 +7,7 @@ mod costs;
 mod estimates;
 mod keys;
 mod naming;
+mod placing;
 mod stats;
 mod table;
 
