@@ -4,7 +4,11 @@ pub mod Filled
 pub mod Fitting
 pub mod Least
 pub mod Merging
+pub mod NoVariables
+pub mod Numbers
+pub mod Outlines
 pub mod PlacedJoins
+pub mod PlacedTrees
 pub mod Said
 pub mod Scanned
 pub mod Sets
