@@ -1,4 +1,5 @@
 pub mod Caps
+pub mod Chosen
 pub mod Costed
 pub mod Filled
 pub mod Fitting

@@ -18,7 +18,7 @@ use plan_tree::{Method, Tree, Way};
 use rel_meaning::{Expr, Query};
 
 // A query has at most so many variables.
-const MOST_VARS: usize = 6;
+pub(crate) const MOST_VARS: usize = 6;
 
 fn capped(cost: u128) -> u64
     ensures { result ≡ min cost limit }

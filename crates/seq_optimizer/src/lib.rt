@@ -7,12 +7,14 @@ mod costs;
 mod estimates;
 mod keys;
 mod naming;
+mod optimising;
 mod placing;
 mod stats;
 mod table;
 
 pub use bounds::bounds_of;
 pub use costs::{cost, estimate};
+pub use optimising::optimise;
 pub use stats::{VarStats, VarStatsList};
 
 /// No memory is left.
