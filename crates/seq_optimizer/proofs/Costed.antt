@@ -1,15 +1,14 @@
 -- The cost of a join from those of its sides.
-use Rattle.std.proofs.Common.{◌≡◌, ◌∙◌, sym, refl, ap, ℕ, ◌+◌, ◌<◌, ◌==◌, ◌||◌, ◌^◌, Bool, List, min}
+use Rattle.std.proofs.Common.{◌≡◌, ◌∙◌, refl, ℕ, ◌+◌, ◌||◌, Bool, List, min}
 use Rattle.std.specs.Int.Bits.{bit_or}
 use Rattle.rel_meaning.specs.Expression.{Expression}
 use Rattle.rows.specs.declared.plain.KeyPair.{KeyPair}
 use Rattle.plan_tree.specs.declared.tree.Method.{Method}
-use Rattle.plan_tree.specs.declared.tree.Way.{Way}
-use Rattle.plan_tree.specs.Trees.{Shape, has, join, scan}
+use Rattle.plan_tree.specs.Trees.{Shape, has, join}
 use Rattle.seq_optimizer.specs.declared.stats.VarStats.{VarStats}
 use Rattle.seq_optimizer.specs.declared.costs.Costed.{Costed}
 use Rattle.seq_optimizer.specs.Costed.{IsCosted}
-use Rattle.seq_optimizer.specs.Costs.{cost, step_cost}
+use Rattle.seq_optimizer.specs.Costs.{step_cost}
 use Rattle.seq_optimizer.specs.Estimates.{limit, set_size, variable_sizes}
 use Rattle.seq_optimizer.specs.Sets.{in_set}
 use Rattle.seq_optimizer.proofs.Sets.{either_set}

@@ -1,14 +1,12 @@
 -- One more set in the table of the chosen trees.
-use Rattle.std.proofs.Common.{◌≡◌, ◌∙◌, sym, refl, ap, ap₂, arith, rules, ℕ, zero, suc, ◌+◌, ◌*◌, ◌^◌, ◌-◌, ◌<◌, ◌≤◌, min, map, get_or, List, [], ◌∷◌, ◌++◌, Some, Option, length, length-append, subst, inl, inr}
-use Rattle.std.specs.Option.{MatchOption}
+use Rattle.std.proofs.Common.{◌≡◌, ◌∙◌, sym, refl, ap, arith, ℕ, ◌+◌, ◌^◌, ◌-◌, ◌<◌, ◌≤◌, map, List, [], ◌∷◌, ◌++◌, Some, length, length-append, subst, inl, inr}
 use Rattle.std.specs.List.{slice_get}
 use Rattle.std.proofs.lemmas.Option.{slice_get_within, get_or_from_slice_get, slice_get-get_or}
 use Rattle.std.proofs.lemmas.List.{length-map, get_or_append_left, get_or_push, map-append, length_push}
 use Rattle.std.proofs.lemmas.Bool.{cases_lt}
 use Rattle.seq_optimizer.specs.declared.table.Entry.{Entry}
 use Rattle.seq_optimizer.specs.declared.table.Choice.TheVariants as choice
-use Rattle.plan_tree.specs.declared.tree.Way.{Way}
-use Rattle.seq_optimizer.specs.Tables.{Apart, BestBelow, HasFirstNode, IsBestScan, IsChosenOutline, IsLeastOutline, IsOutline, Outline, Says, Settled, SettledBelow, World, cost_at, join_of, leaf, mask_of, node, outline_cost, split_cost, split_price}
+use Rattle.seq_optimizer.specs.Tables.{Apart, BestBelow, IsBestScan, IsChosenOutline, IsLeastOutline, IsOutline, Outline, Says, Settled, SettledBelow, World, cost_at, join_of, leaf, mask_of, node, outline_cost, split_cost, split_price}
 use Rattle.seq_optimizer.proofs.Least.{chosen_least, has_variable}
 
 get_kept : {X : Type 0} (xs ys : List X) (i : ℕ) (x : X) → slice_get xs i ≡ Some x → slice_get (xs ++ ys) i ≡ Some x

@@ -1,5 +1,5 @@
 -- The constants of a well typed query have their values in 64 bits.
-use Rattle.std.proofs.Common.{◌≡◌, ℕ, ◌<◌, ◌^◌, nat_abs, nat_le, Bool, true, false, ◌&&◌, List, [], ◌∷◌, Option, Some, None, refl, arith, IsSome, cond}
+use Rattle.std.proofs.Common.{◌≡◌, ℕ, ◌<◌, ◌^◌, nat_abs, nat_le, Bool, true, false, ◌&&◌, [], Option, Some, None, refl, arith, IsSome}
 use Rattle.std.specs.Prelude.{if◌then◌else◌, All}
 use Rattle.std.specs.Option.{option_or}
 use Rattle.std.proofs.lemmas.List.Elements.{All-nil, All-push}
@@ -10,10 +10,10 @@ use Rattle.rows.specs.declared.field.ColType.TheVariants as col
 use Rattle.rel_meaning.specs.declared.expr.CompareOp.{CompareOp}
 use Rattle.rel_meaning.specs.Expression as ex
 use Rattle.rel_meaning.specs.Expression.{Expression}
-use Rattle.rel_meaning.specs.Typing.{compare_type, integer_bound, integer_within, is_truth, negate_type, same_type, truth_type, type_of}
+use Rattle.rel_meaning.specs.Typing.{compare_type, integer_bound, integer_within, is_truth, negate_type, truth_type, type_of}
 use Rattle.plan_tree.specs.Conjuncts.{conjuncts, operands}
 use Rattle.plan_tree.specs.Keys.{column_ref}
-use Rattle.seq_optimizer.specs.Bounds.{Comparison, IsFitComparison, IsFitConstant, IsFitIn, IsFitNumber, IsTyped, compared, comparison_of, is_constant, turned}
+use Rattle.seq_optimizer.specs.Bounds.{Comparison, IsFitComparison, IsFitConstant, IsFitIn, IsFitNumber, IsTyped, compared, is_constant, turned}
 
 within_some : (b : ℕ) → IsSome (negate_type (integer_bound (integer_within b))) → b < 2 ^ 63
 within_some b h = by (nat_le b 9223372036854775807) refl h where

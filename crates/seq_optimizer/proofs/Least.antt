@@ -1,6 +1,5 @@
 -- That the chosen trees are least.
-use Rattle.std.proofs.Common.{◌≡◌, ◌∙◌, sym, refl, ap, arith, ℕ, zero, suc, ◌+◌, ◌*◌, ◌^◌, ◌-◌, ◌<◌, ◌≤◌, min, List, Some, Option, length, subst}
-use Rattle.std.specs.Int.Bits.{bit_and}
+use Rattle.std.proofs.Common.{◌≡◌, ◌∙◌, sym, arith, ℕ, ◌<◌, ◌≤◌, List, Some, Option, subst}
 use Rattle.std.proofs.lemmas.Nat.{pow_pos}
 use Rattle.plan_tree.specs.declared.tree.Way.{Way}
 use Rattle.plan_tree.specs.declared.tree.Way.TheVariants as way

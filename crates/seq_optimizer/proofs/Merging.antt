@@ -1,9 +1,8 @@
 -- Whether a join has a key pair, by its conjuncts.
-use Rattle.std.proofs.Common.{◌≡◌, ℕ, Bool, true, false, ◌||◌, cond, List, [], ◌∷◌, Option, Some, None, refl, map, is_some}
+use Rattle.std.proofs.Common.{◌≡◌, ℕ, Bool, ◌||◌, cond, List, [], ◌∷◌, Option, Some, None, refl, map, is_some}
 use Rattle.std.specs.Borrow.{Bor}
 use Rattle.rel_meaning.specs.declared.expr.Expr.{Expr}
 use Rattle.rows.specs.declared.plain.KeyPair.{KeyPair}
-use Rattle.plan_tree.specs.declared.tree.Method.{Method}
 use Rattle.plan_tree.specs.declared.tree.Method.TheVariants.{Hash, Merge}
 use Rattle.plan_tree.specs.Keys.{key_of, keys_of, with_key}
 use Rattle.plan_tree.specs.Trees.{method_at}

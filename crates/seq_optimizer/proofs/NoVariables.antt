@@ -1,5 +1,5 @@
 -- The plan of a query without variables.
-use Rattle.std.proofs.Common.{◌≡◌, ◌∙◌, sym, refl, ap, subst, arith, ℕ, zero, suc, ◌+◌, ◌<◌, ◌≤◌, Bool, true, false, ◌==◌, List, length, nat_lt}
+use Rattle.std.proofs.Common.{◌≡◌, sym, refl, arith, ℕ, ◌<◌, ◌≤◌, Bool, true, false, List, length, nat_lt}
 use Rattle.std.proofs.lemmas.Bool.Decides.{nat_tests}
 use Rattle.lists.specs.Arranged.{one_if}
 use Rattle.rel_meaning.specs.Expression.{Expression, Question}

@@ -1,21 +1,18 @@
 -- Trees and their outlines.
-use Rattle.std.proofs.Common.{◌≡◌, ◌∙◌, sym, refl, ap, subst, arith, ℕ, zero, suc, ◌+◌, ◌^◌, ◌<◌, ◌≤◌, min, Bool, true, false, ◌==◌, ◌||◌, List, length}
-use Rattle.std.specs.Int.{bit_at}
-use Rattle.std.proofs.lemmas.Bool.Decides.{nat_tests}
-use Rattle.lists.specs.Arranged.{one_if}
+use Rattle.std.proofs.Common.{◌≡◌, ◌∙◌, refl, arith, ℕ, ◌+◌, ◌<◌, ◌≤◌, min, Bool, true, false, ◌||◌, List, length}
 use Rattle.rel_meaning.specs.Expression.{Expression}
 use Rattle.rows.specs.declared.plain.KeyPair.{KeyPair}
 use Rattle.plan_tree.specs.declared.tree.Method.{Method}
 use Rattle.plan_tree.specs.declared.tree.Way.TheVariants as way
 use Rattle.plan_tree.specs.Keys.{keys_of}
-use Rattle.plan_tree.specs.Trees.{HasMethods, IsPlaced, Shape, has, join, join_tests, method_at, one, scan, scans}
+use Rattle.plan_tree.specs.Trees.{HasMethods, IsPlaced, Shape, has, join, method_at, one, scan, scans}
 use Rattle.seq_optimizer.specs.declared.stats.VarStats.{VarStats}
 use Rattle.seq_optimizer.specs.Costs.{FitsStats, cost, number_of, step_cost}
 use Rattle.seq_optimizer.specs.Estimates.{limit, set_size, variable_sizes}
 use Rattle.seq_optimizer.specs.Placed.{placed}
 use Rattle.seq_optimizer.specs.Sets.{in_set}
-use Rattle.seq_optimizer.specs.Tables.{IsOutline, Outline, join_of, leaf, mask_of, node, node_step, outline_cost, world_of}
-use Rattle.seq_optimizer.proofs.Numbers.{apart_bits, has_number, left_once, number_bits, power_bit, right_once, sides_apart, sum_bits}
+use Rattle.seq_optimizer.specs.Tables.{IsOutline, Outline, leaf, mask_of, node, node_step, outline_cost, world_of}
+use Rattle.seq_optimizer.proofs.Numbers.{has_number, left_once, right_once, sides_apart}
 use Rattle.seq_optimizer.proofs.Scanned.{scans_itself}
 
 -- the outline of a tree

@@ -1,5 +1,5 @@
 -- The placed tree of an outline, from those of its sides.
-use Rattle.std.proofs.Common.{◌≡◌, ◌∙◌, sym, refl, ap, arith, ℕ, ◌+◌, ◌-◌, ◌^◌, ◌<◌, ◌==◌, Bool, true, false, List}
+use Rattle.std.proofs.Common.{◌≡◌, ◌∙◌, sym, refl, ap, arith, ℕ, ◌+◌, ◌-◌, ◌^◌, ◌==◌, Bool, false, List}
 use Rattle.plan_tree.specs.declared.tree.Way.{Way}
 use Rattle.plan_tree.specs.declared.tree.Method.{Method}
 use Rattle.rel_meaning.specs.Expression.{Expression}

@@ -1,5 +1,5 @@
 -- The placed tree of a chosen outline is the chosen tree.
-use Rattle.std.proofs.Common.{◌≡◌, ◌∙◌, sym, refl, ap, subst, arith, ℕ, zero, suc, ◌+◌, ◌-◌, ◌^◌, ◌<◌, ◌≤◌, Bool, true, false, ◌==◌, ◌||◌, List, length, nat_lt}
+use Rattle.std.proofs.Common.{◌≡◌, ◌∙◌, sym, refl, ap, subst, arith, ℕ, zero, suc, ◌+◌, ◌-◌, ◌^◌, ◌<◌, ◌≤◌, Bool, true, false, ◌==◌, List, length, nat_lt}
 use Rattle.std.specs.Int.{bit_at}
 use Rattle.std.proofs.lemmas.Bool.Decides.{nat_tests}
 use Rattle.std.proofs.lemmas.Nat.Bits.{bit_at-lt, bit_at_ones, bit_at_ones_above, same_from_bits}
@@ -7,10 +7,8 @@ use Rattle.lists.specs.Arranged.{one_if}
 use Rattle.rel_meaning.specs.Expression.{Expression, Question}
 use Rattle.rows.specs.declared.plain.KeyPair.{KeyPair}
 use Rattle.plan_tree.specs.declared.tree.Method.{Method}
-use Rattle.plan_tree.specs.declared.tree.Way.{Way}
 use Rattle.plan_tree.specs.Conjuncts.{conjuncts}
-use Rattle.plan_tree.specs.Keys.{keys_of}
-use Rattle.plan_tree.specs.Trees.{HasMethods, IsPlaced, IsTree, IsTreeOf, Shape, has, is_variable, join, join_tests, method_at, one, scan, scans}
+use Rattle.plan_tree.specs.Trees.{HasMethods, IsPlaced, IsTree, IsTreeOf, Shape, has, is_variable, join, scans}
 use Rattle.seq_optimizer.specs.declared.stats.VarStats.{VarStats}
 use Rattle.seq_optimizer.specs.Best.{IsBestTree, IsFound}
 use Rattle.seq_optimizer.specs.Costs.{FitsStats, HasFirstSide, IsChosen, IsLeast, cost, number_of}
@@ -21,7 +19,7 @@ use Rattle.seq_optimizer.proofs.Least.{chosen_least, has_variable}
 use Rattle.seq_optimizer.proofs.Numbers.{apart_bits, has_number, has_scans, number_bits, power_bit, sum_bits}
 use Rattle.seq_optimizer.proofs.Outlines.{bare, side_mask, tree_cost, tree_mask, tree_outline}
 use Rattle.seq_optimizer.proofs.Scanned.{if_one}
-use Rattle.seq_optimizer.proofs.Sets.{first_set, same_sets}
+use Rattle.seq_optimizer.proofs.Sets.{first_set}
 
 same_variable : (v w : ℕ) → 0 < one_if (v == w) → v ≡ w
 same_variable v w h = let same : (v == w) ≡ true = if_one (v == w) h in grind (arith, nat_tests)

@@ -1,12 +1,12 @@
 -- Which variables a tree scans.
-use Rattle.std.proofs.Common.{◌≡◌, ◌∙◌, sym, refl, ap, subst, arith, ℕ, zero, suc, ◌+◌, ◌<◌, ◌≤◌, Bool, true, false, ◌==◌, ◌||◌, nat_lt, List}
+use Rattle.std.proofs.Common.{◌≡◌, refl, ap, subst, arith, ℕ, ◌<◌, Bool, true, false, ◌==◌, nat_lt, List}
 use Rattle.std.proofs.lemmas.Bool.Decides.{nat_tests}
 use Rattle.lists.specs.Arranged.{one_if}
 use Rattle.rel_meaning.specs.Expression.{Expression}
 use Rattle.plan_tree.specs.declared.tree.Method.{Method}
-use Rattle.plan_tree.specs.Trees.{IsTreeOf, Shape, has, join, one, scan, scans}
+use Rattle.plan_tree.specs.Trees.{IsTreeOf, Shape, join, one, scan, scans}
 use Rattle.seq_optimizer.specs.Costed.{AreScans}
-use Rattle.seq_optimizer.specs.Costs.{HasIntervals, IsWayInterval}
+use Rattle.seq_optimizer.specs.Costs.{HasIntervals}
 
 pub if_one : (b : Bool) → 0 < one_if b → b ≡ true
 if_one true h = refl

@@ -1,5 +1,5 @@
 -- Estimates as the code finds them.
-use Rattle.std.proofs.Common.{◌≡◌, ◌∙◌, sym, refl, ap, arith, ℕ, zero, suc, ◌+◌, ◌*◌, ◌^◌, ◌<◌, ◌≤◌, min, max, Bool, true, false, not, ◌&&◌, ◌==◌, cond, List, [], ◌∷◌, ◌++◌, map, filter, fold, length, append-nil, take, set, get_or}
+use Rattle.std.proofs.Common.{◌≡◌, ◌∙◌, sym, refl, ap, arith, ℕ, zero, suc, ◌+◌, ◌*◌, ◌^◌, ◌<◌, ◌≤◌, min, Bool, true, false, not, ◌&&◌, cond, List, [], ◌∷◌, ◌++◌, map, filter, fold, length, append-nil, take, set, get_or}
 use Rattle.std.specs.List.{range_with_len}
 use Rattle.std.proofs.lemmas.List.{map-id, map-append, take_more_set}
 use Rattle.std.proofs.lemmas.List.Elements.{filter-append}
@@ -37,7 +37,7 @@ narrowed_all v by [] h = omega arith
 narrowed_all v by (c ∷ cs) h =
     let next : narrowed v by c ≤ 2 ^ 64 = omega arith in
     let rest : min (min (by * factor_of v c) (2 ^ 64) * (10 ^ fixing v cs * 3 ^ others v cs)) (2 ^ 64) ≡ min (by * factor_of v c * (10 ^ fixing v cs * 3 ^ others v cs)) (2 ^ 64) =
-        cap_times (2 ^ 64) (by * factor_of v c) (10 ^ fixing v cs * 3 ^ others v cs) in
+    cap_times (2 ^ 64) (by * factor_of v c) (10 ^ fixing v cs * 3 ^ others v cs) in
     let whole = powers v c cs in
     let same : by * factor_of v c * (10 ^ fixing v cs * 3 ^ others v cs) ≡ by * (factor_of v c * (10 ^ fixing v cs * 3 ^ others v cs)) = omega arith in
     narrowed_all v (narrowed v by c) cs next ∙ rest ∙ ap (λ (n : ℕ). min n (2 ^ 64)) (same ∙ ap (λ (n : ℕ). by * n) (sym whole))

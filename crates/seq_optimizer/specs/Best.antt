@@ -1,5 +1,5 @@
 -- The plan of a query.
-use Rattle.std.specs.Prelude.{◌≡◌, ◌≤◌, ◌^◌, ◌-◌, ℕ, Bool, true, List, length}
+use Rattle.std.specs.Prelude.{◌≡◌, ◌≤◌, ◌^◌, ◌-◌, ℕ, true, List, length}
 use Rattle.rel_meaning.specs.Expression.{Expression, Question}
 use Rattle.plan_tree.specs.declared.tree.Method.{Method}
 use Rattle.plan_tree.specs.Conjuncts.{conjuncts}

@@ -1,5 +1,5 @@
 -- The bounds that conjuncts set to a column.
-use Rattle.std.specs.Prelude.{◌≡◌, ◌<◌, ◌^◌, ℕ, neg_ℤ, nat_abs, ⊤, Bool, true, false, ◌==◌, ◌&&◌, List, Option, Some, None, if◌then◌else◌, IfSome, IsSome}
+use Rattle.std.specs.Prelude.{◌<◌, ◌^◌, ℕ, neg_ℤ, nat_abs, ⊤, Bool, true, false, ◌==◌, ◌&&◌, List, Option, Some, None, if◌then◌else◌, IfSome, IsSome}
 use Rattle.std.specs.List.{filter_map}
 use Rattle.std.specs.Option.{option_map, option_and_then, option_or}
 use Rattle.rows.specs.declared.value.Value.{Value}

@@ -1,5 +1,5 @@
 -- What trees cost, and which tree is chosen.
-use Rattle.std.specs.Prelude.{◌≡◌, ◌<◌, ◌≤◌, ℕ, ◌+◌, ◌-◌, ◌*◌, ◌^◌, Bool, true, false, ◌||◌, List, length, map, min, slice_index_or, Option, Some, None, All, IfSome, ⊤}
+use Rattle.std.specs.Prelude.{◌≡◌, ◌<◌, ◌≤◌, ℕ, ◌+◌, ◌-◌, ◌*◌, ◌^◌, Bool, false, ◌||◌, List, length, min, Some, All, IfSome, ⊤}
 use Rattle.std.specs.Int.Count.{count_leading_zeros}
 use Rattle.rows.specs.declared.plain.Interval.{Interval}
 use Rattle.rows.specs.declared.plain.KeyPair.{KeyPair}
@@ -8,7 +8,6 @@ use Rattle.plan_tree.specs.declared.tree.Way.{Way}
 use Rattle.plan_tree.specs.declared.tree.Way.TheVariants as way
 use Rattle.plan_tree.specs.declared.tree.Method.{Method}
 use Rattle.plan_tree.specs.declared.tree.Method.TheVariants as method
-use Rattle.plan_tree.specs.Conjuncts.{conjuncts}
 use Rattle.plan_tree.specs.Trees.{Shape, one, scan, join, has, IsTreeOf}
 use Rattle.seq_optimizer.specs.declared.stats.VarStats.{VarStats}
 use Rattle.seq_optimizer.specs.Estimates.{limit, set_size, stats_at, variable_sizes}
@@ -40,7 +39,7 @@ cost cs stats (one tests) = 1
 cost cs stats (scan v how tests) = scan_cost stats v how
 cost cs stats (join kind a b keys tests) =
     min (cost cs stats a + cost cs stats b
-        + step_cost kind (set_size cs (variable_sizes cs stats) (has a)) (set_size cs (variable_sizes cs stats) (has b)) (set_size cs (variable_sizes cs stats) (λ v. has a v || has b v)))
+    + step_cost kind (set_size cs (variable_sizes cs stats) (has a)) (set_size cs (variable_sizes cs stats) (has b)) (set_size cs (variable_sizes cs stats) (λ v. has a v || has b v)))
     limit
 
 -- a way to read the variable: an index scan has the interval that the stats hold for it

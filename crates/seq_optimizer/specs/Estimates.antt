@@ -1,5 +1,5 @@
 -- How many rows sets of range variables are taken to have. All divisions take the floor.
-use Rattle.std.specs.Prelude.{◌≡◌, ℕ, ◌+◌, ◌*◌, ◌/◌, ◌^◌, Bool, true, false, not, ◌==◌, ◌&&◌, List, [], ◌∷◌, length, map, filter, min, max, slice_index_or, Option, Some, None, if◌then◌else◌, fold}
+use Rattle.std.specs.Prelude.{ℕ, ◌*◌, ◌/◌, ◌^◌, Bool, not, ◌==◌, ◌&&◌, List, [], ◌∷◌, length, map, filter, min, max, slice_index_or, Option, Some, None, if◌then◌else◌, fold}
 use Rattle.std.specs.List.{list_any, range_with_len}
 use Rattle.rel_meaning.specs.Expression.{Expression}
 use Rattle.plan_tree.specs.Conjuncts.{is_within, names_none}

@@ -8,7 +8,6 @@ use Rattle.plan_tree.specs.declared.tree.Method.{Method}
 use Rattle.plan_tree.specs.Keys.{keys_of}
 use Rattle.plan_tree.specs.Trees.{method_at}
 use Rattle.seq_optimizer.specs.declared.stats.VarStats.{VarStats}
-use Rattle.seq_optimizer.specs.declared.table.Choice.{Choice}
 use Rattle.seq_optimizer.specs.declared.table.Choice.TheVariants as choice
 use Rattle.seq_optimizer.specs.declared.table.Entry.{Entry}
 use Rattle.seq_optimizer.specs.declared.table.Planner.{Planner}

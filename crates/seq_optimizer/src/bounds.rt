@@ -182,12 +182,7 @@ fn put_bound(
 /// The bounds that the conjuncts of a query set to a column of a range variable, in the order of the text. The value of
 /// each is that of the constant, and the operator is turned round where the constant stands first. An `Err` is want of
 /// memory.
-pub fn bounds_of(
-    alloc: Global,
-    query: &Query,
-    var: u32,
-    column: u32,
-) -> Result<BoundList, NoMemory>
+pub fn bounds_of(alloc: Global, query: &Query, var: u32, column: u32) -> Result<BoundList, NoMemory>
     requires { IsTyped (question_of query.now).test }
     ensures { IfOk result (λ bounds. bounds ≡ bounds_of var column (conjuncts (question_of query.now).test)) }
 {

@@ -86,13 +86,7 @@ struct Costed {
 }
 
 // The join of two trees, from what is known of its sides.
-fn joined(
-    test: &Option<Expr>,
-    sizes: &[u64],
-    kind: Method,
-    first: Costed,
-    second: Costed,
-) -> Costed
+fn joined(test: &Option<Expr>, sizes: &[u64], kind: Method, first: Costed, second: Costed) -> Costed
     requires { length sizes.now < 32 }
     ensures { let cs = conjuncts (option_map expression_of test.now) in (stats : List VarStats) → sizes.now ≡ variable_sizes cs stats → (a b : Shape) → IsCosted cs stats a first → IsCosted cs stats b second → (keys : List KeyPair) (tests : List Expression) → IsCosted cs stats (join kind a b keys tests) result }
 {

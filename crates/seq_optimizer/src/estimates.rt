@@ -8,8 +8,8 @@ ghost use Rattle.seq_optimizer.specs.Estimates.{divided, divided_if, size_at, di
 ghost use Rattle.seq_optimizer.specs.Factors.{IsFactors, equality_as};
 ghost use Rattle.seq_optimizer.specs.Sets.{in_set};
 
-use crate::bounds::{is_fixing, plain_column};
 use crate::VarStats;
+use crate::bounds::{is_fixing, plain_column};
 use crate::naming::{is_alone, is_in_set, is_joining};
 use rel_meaning::{CompareOp, Expr};
 use rows::ColumnRef;
@@ -160,7 +160,9 @@ fn divisor_by(sizes: &[u64], conjunct: &Expr) -> u64
     ensures some { 0 < result }
 {
     match equality_of(conjunct) {
-        Some((left, right)) => size_at(sizes, left.var).max(size_at(sizes, right.var)).max(1),
+        Some((left, right)) => size_at(sizes, left.var)
+            .max(size_at(sizes, right.var))
+            .max(1),
         None => 3,
     }
 }
@@ -216,7 +218,9 @@ pub(crate) fn set_size(test: &Option<Expr>, sizes: &[u64], set: u32) -> u64
     if factors.is_empty {
         return 0;
     }
-    joined_size(test, sizes, set, factors.product).min(LIMIT).max(1) as u64
+    joined_size(test, sizes, set, factors.product)
+        .min(LIMIT)
+        .max(1) as u64
 }
 
 // Puts the estimate of each variable into its place.

@@ -43,7 +43,9 @@ pub(crate) fn key_of(conjunct: &Expr, first: u32, second: u32) -> Option<KeyPair
 fn has_key(conjuncts: &[&Expr], first: u32, second: u32) -> bool
     ensures { result ≡ has_key (in_set first) (in_set second) conjuncts.now }
 {
-    conjuncts.iter().any(|conjunct| key_of(conjunct, first, second).is_some())
+    conjuncts
+        .iter()
+        .any(|conjunct| key_of(conjunct, first, second).is_some())
 }
 
 // How a join of two sets is done under a method.

@@ -49,11 +49,7 @@ fn one_tree(alloc: Global, conjuncts: &[&Expr]) -> Result<Found, NoMemory>
 }
 
 // The estimate of each set of variables, at the set's number.
-fn all_sizes(
-    alloc: Global,
-    test: &Option<Expr>,
-    stats: &[VarStats],
-) -> Result<Vec<u64>, NoMemory>
+fn all_sizes(alloc: Global, test: &Option<Expr>, stats: &[VarStats]) -> Result<Vec<u64>, NoMemory>
     requires { length stats.now ≤ 6 }
     ensures { IfOk result (λ v. v.items ≡ all_sizes (conjuncts (option_map expression_of test.now)) stats.now) }
 {
@@ -83,12 +79,7 @@ fn best_tree(alloc: Global, planner: &Planner<'_>) -> Result<Found, NoMemory>
 }
 
 // The tree of a query that costs least.
-fn find(
-    alloc: Global,
-    query: &Query,
-    stats: &[VarStats],
-    method: Method,
-) -> Result<Found, NoMemory>
+fn find(alloc: Global, query: &Query, stats: &[VarStats], method: Method) -> Result<Found, NoMemory>
     requires { CanPlan (question_of query.now) stats.now }
     ensures { IfOk result (λ f. IsBestTree (question_of query.now) stats.now method (shape_of f.tree) f.cost) }
 {

@@ -73,7 +73,10 @@ fn node_step(planner: &Planner<'_>, first: u32, second: u32) -> u128
     ensures most { result ≤ 2 ^ 73 }
 {
     let kind = kind_of(planner.method, planner.conjuncts, first, second);
-    let (a, b) = (planner.sizes[first as usize], planner.sizes[second as usize]);
+    let (a, b) = (
+        planner.sizes[first as usize],
+        planner.sizes[second as usize],
+    );
     step_cost(kind, a, b, planner.sizes[(first + second) as usize])
 }
 
@@ -85,7 +88,11 @@ fn split_cost(planner: &Planner<'_>, table: &[Entry], first: u32, second: u32) -
     ensures { result ≡ split_cost (planned planner.now) table.now first second }
 {
     let step = node_step(planner, first, second);
-    join_cost(table[first as usize].cost, table[second as usize].cost, step)
+    join_cost(
+        table[first as usize].cost,
+        table[second as usize].cost,
+        step,
+    )
 }
 
 // The cheaper of the best split so far and a further one, the former on a tie.

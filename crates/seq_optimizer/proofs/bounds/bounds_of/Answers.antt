@@ -1,4 +1,4 @@
-use Rattle.std.proofs.Common.{◌≡◌, ◌∙◌, sym, subst, ◌<◌, List, ap, ◌++◌, ◌∷◌, [], length, map, take}
+use Rattle.std.proofs.Common.{◌∙◌, sym, subst, ◌<◌, List, ap, ◌++◌, ◌∷◌, [], length, map, take}
 use Rattle.std.specs.Prelude.{All}
 use Rattle.rel_meaning.specs.Expression.{Expression, expression_of, question_of}
 use Rattle.rows.specs.declared.plain.Bound.{Bound}

@@ -1,4 +1,4 @@
-use Rattle.std.proofs.Common.{◌≡◌, length}
+use Rattle.std.proofs.Common.{length}
 use Rattle.rel_meaning.specs.Expression.{question_of}
 use Rattle.plan_tree.specs.Conjuncts.{conjuncts}
 use Rattle.plan_tree.specs.Views.{shape_of}

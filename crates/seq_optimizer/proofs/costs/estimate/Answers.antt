@@ -1,4 +1,4 @@
-use Rattle.std.proofs.Common.{◌≡◌, ◌∙◌, refl}
+use Rattle.std.proofs.Common.{◌∙◌, refl}
 use Rattle.seq_optimizer.proofs.costs.estimate.Goals as goal
 
 pub returns : goal.returns

@@ -1,4 +1,4 @@
-use Rattle.std.proofs.Common.{◌≡◌, ◌∙◌, refl}
+use Rattle.std.proofs.Common.{◌∙◌, refl}
 use Rattle.std.specs.Option.{option_map}
 use Rattle.rel_meaning.specs.Expression.{expression_of}
 use Rattle.plan_tree.specs.Conjuncts.{conjuncts}

@@ -1,4 +1,4 @@
-use Rattle.std.proofs.Common.{◌≡◌, ◌∙◌, ap, ℕ}
+use Rattle.std.proofs.Common.{◌∙◌, ap, ℕ}
 use Rattle.seq_optimizer.specs.Sets.{in_set}
 use Rattle.seq_optimizer.proofs.Sets.{one_set}
 use Rattle.seq_optimizer.proofs.costs.scan_costed.Goals as goal

@@ -1,4 +1,4 @@
-use Rattle.std.proofs.Common.{◌≡◌, ◌∙◌, ◌<◌}
+use Rattle.std.proofs.Common.{◌≡◌, ◌∙◌}
 use Rattle.rel_meaning.specs.Expression.{expression_of}
 use Rattle.plan_tree.specs.Conjuncts.{operands}
 use Rattle.seq_optimizer.specs.Estimates.{divisor}

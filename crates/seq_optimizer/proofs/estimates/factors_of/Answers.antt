@@ -1,5 +1,4 @@
-use Rattle.std.proofs.Common.{arith, ◌≡◌, ◌∙◌, ap, sym, refl}
-use Rattle.seq_optimizer.specs.Factors.{IsFactors}
+use Rattle.std.proofs.Common.{arith}
 use Rattle.seq_optimizer.specs.Sets.{in_set}
 use Rattle.seq_optimizer.proofs.Sizes.{below_more}
 use Rattle.seq_optimizer.proofs.estimates.factors_of.Goals as goal

@@ -1,4 +1,4 @@
-use Rattle.std.proofs.Common.{◌≤◌, ◌<◌}
+use Rattle.std.proofs.Common.{◌≤◌}
 use Rattle.seq_optimizer.specs.Estimates.{sizes_below}
 use Rattle.seq_optimizer.specs.Factors.{IsFactors}
 use Rattle.seq_optimizer.specs.Sets.{in_set}

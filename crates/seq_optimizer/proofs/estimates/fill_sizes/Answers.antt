@@ -1,7 +1,5 @@
-use Rattle.std.proofs.Common.{rules, ◌<◌, ◌≡◌, ◌∙◌, sym, ap, arith, ◌+◌, ◌∷◌, [], ◌++◌, ℕ, List, length, take, map}
-use Rattle.std.specs.List.{range_with_len}
+use Rattle.std.proofs.Common.{rules, ◌<◌, arith, ℕ, length}
 use Rattle.std.specs.Option.{option_map}
-use Rattle.std.proofs.lemmas.List.FromFn.{map-range_with_len_more}
 use Rattle.rel_meaning.specs.Expression.{expression_of}
 use Rattle.plan_tree.specs.Conjuncts.{conjuncts}
 use Rattle.seq_optimizer.specs.Estimates.{stats_at, variable_size}

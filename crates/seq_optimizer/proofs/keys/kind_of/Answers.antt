@@ -1,4 +1,4 @@
-use Rattle.std.proofs.Common.{◌≡◌, ◌∙◌, sym, ap, Bool, true, false, cond}
+use Rattle.std.proofs.Common.{◌∙◌, sym, ap, Bool, cond}
 use Rattle.plan_tree.specs.declared.tree.Method.TheVariants.{Hash, Merge}
 use Rattle.seq_optimizer.specs.Sets.{in_set}
 use Rattle.seq_optimizer.proofs.Merging.{merge_at}

@@ -1,4 +1,4 @@
-use Rattle.std.proofs.Common.{◌≡◌, ◌∙◌, ap, ℕ, ◌-◌}
+use Rattle.std.proofs.Common.{◌∙◌, ap, ℕ, ◌-◌}
 use Rattle.seq_optimizer.specs.Sets.{in_set}
 use Rattle.seq_optimizer.proofs.Sets.{first_set}
 use Rattle.seq_optimizer.proofs.naming.first_vars.Goals as goal

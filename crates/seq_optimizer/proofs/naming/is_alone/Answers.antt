@@ -1,4 +1,4 @@
-use Rattle.std.proofs.Common.{◌≡◌, ◌∙◌, ap, ℕ, Bool}
+use Rattle.std.proofs.Common.{◌∙◌, ap, ℕ, Bool}
 use Rattle.rel_meaning.specs.Expression.{expression_of}
 use Rattle.plan_tree.specs.Trees.{is_inside}
 use Rattle.seq_optimizer.specs.Sets.{in_set}

@@ -1,4 +1,4 @@
-use Rattle.std.proofs.Common.{arith, sym, ap, ◌≡◌, ◌∙◌, ◌-◌, ◌^◌, length, map, ℕ}
+use Rattle.std.proofs.Common.{length, map}
 use Rattle.plan_tree.specs.Views.{shape_of}
 use Rattle.seq_optimizer.specs.Compared.{expression_at}
 use Rattle.seq_optimizer.specs.Tables.{planned}

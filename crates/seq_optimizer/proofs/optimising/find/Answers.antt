@@ -1,4 +1,4 @@
-use Rattle.std.proofs.Common.{arith, sym, ap, subst, ◌≡◌, ◌∙◌, ◌==◌, List, length, map, ℕ, true}
+use Rattle.std.proofs.Common.{sym, ap, subst, ◌≡◌, ◌∙◌, List, length, map}
 use Rattle.std.proofs.lemmas.Result.{IfOk-weaker}
 use Rattle.rel_meaning.specs.Expression.{Expression, question_of}
 use Rattle.plan_tree.specs.Conjuncts.{conjuncts}

@@ -1,4 +1,4 @@
-use Rattle.std.proofs.Common.{rules, arith, sym, ap, ◌≡◌, ◌∙◌, ◌<◌, ◌-◌, map}
+use Rattle.std.proofs.Common.{arith, ◌≡◌, ◌<◌, ◌-◌, map}
 use Rattle.std.proofs.lemmas.Result.{IfOk-weaker}
 use Rattle.seq_optimizer.specs.Compared.{expression_at}
 use Rattle.plan_tree.specs.declared.tree.Tree.{Tree}
@@ -49,8 +49,8 @@ returns-in_ok-second-in-Join t c =
     IfOk-weaker c.join_of.result (λ (r : Tree). shape_of r ≡ placed_join cs m c.args.is_root b (c.args.set - b) first second)
     (λ (r : Tree). (u : Outline) → Says c.args.table.now c.args.set u → mask_of u ≡ c.args.set → shape_of r ≡ placed cs m c.args.is_root u)
     (λ r e u said here.
-        let s = sides_at _ _ b _ u c.in-Join.is said in
-        let right_is = right_set u s.left s.right _ _ s.is s.left_set here in
-        placed_node cs m c.args.is_root b c.args.set u s.left s.right first second (shape_of r) s.is s.left_set here
-        (c.in_ok-first-in-Join.ensures s.left s.says_left s.left_set) (c.in_ok-second-in-Join.ensures s.right s.says_right right_is) e)
+    let s = sides_at _ _ b _ u c.in-Join.is said in
+    let right_is = right_set u s.left s.right _ _ s.is s.left_set here in
+    placed_node cs m c.args.is_root b c.args.set u s.left s.right first second (shape_of r) s.is s.left_set here
+    (c.in_ok-first-in-Join.ensures s.left s.says_left s.left_set) (c.in_ok-second-in-Join.ensures s.right s.says_right right_is) e)
     c.join_of.ensures

@@ -1,4 +1,4 @@
-use Rattle.std.proofs.Common.{◌≡◌, ◌∙◌, ap, sym, ◌++◌, [], List, Option, map, take}
+use Rattle.std.proofs.Common.{◌∙◌, ap, sym, ◌++◌, [], List, Option, map, take}
 use Rattle.rows.specs.declared.plain.KeyPair.{KeyPair}
 use Rattle.plan_tree.specs.Keys.{key_of, keys_of, with_key}
 use Rattle.seq_optimizer.specs.Compared.{expression_at}

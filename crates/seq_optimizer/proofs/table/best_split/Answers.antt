@@ -1,4 +1,4 @@
-use Rattle.std.proofs.Common.{arith, ◌≡◌, sym, subst, ◌<◌, ◌+◌, ◌-◌, Option}
+use Rattle.std.proofs.Common.{arith, sym, subst, ◌<◌, ◌+◌, Option}
 use Rattle.seq_optimizer.specs.declared.table.Entry.{Entry}
 use Rattle.seq_optimizer.specs.Tables.{IsBest, planned, split_price}
 use Rattle.seq_optimizer.proofs.Splits.{skipped, taken}

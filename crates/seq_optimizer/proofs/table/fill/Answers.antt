@@ -1,8 +1,8 @@
-use Rattle.std.proofs.Common.{rules, arith, refl, sym, ap, ℕ, ◌≡◌, ◌∙◌, ◌≤◌, ◌<◌, ◌+◌, ◌^◌, length}
+use Rattle.std.proofs.Common.{arith, refl, ap, ℕ, ◌≡◌, ◌∙◌, ◌<◌, ◌+◌, ◌^◌, length}
 use Rattle.std.proofs.lemmas.List.{length_push}
 use Rattle.seq_optimizer.specs.Tables.{BestBelow, planned, split_price}
 use Rattle.seq_optimizer.proofs.Filled.{below_one_more, settled_join, settled_scan}
-use Rattle.seq_optimizer.proofs.Sets.{last_below, next_power, no_variable, some_set}
+use Rattle.seq_optimizer.proofs.Sets.{last_below, no_variable}
 use Rattle.seq_optimizer.proofs.table.fill.Goals as goal
 
 pub loop-before-init : goal.loop-before-init

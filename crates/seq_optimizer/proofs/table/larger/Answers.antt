@@ -1,4 +1,4 @@
-use Rattle.std.proofs.Common.{rules, arith, ◌+◌, ◌^◌, ◌≡◌, ap}
+use Rattle.std.proofs.Common.{arith, ◌+◌, ◌^◌, ◌≡◌}
 use Rattle.seq_optimizer.proofs.Sets.{first_apart}
 use Rattle.seq_optimizer.proofs.table.larger.Goals as goal
 

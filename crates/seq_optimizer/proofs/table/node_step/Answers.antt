@@ -1,4 +1,4 @@
-use Rattle.std.proofs.Common.{arith, ◌≡◌, ◌∙◌, refl, map, ◌<◌, ◌+◌, ◌^◌, length}
+use Rattle.std.proofs.Common.{arith, ◌∙◌, refl, map, ◌+◌}
 use Rattle.seq_optimizer.specs.Compared.{expression_at}
 use Rattle.seq_optimizer.specs.Tables.{node_step}
 use Rattle.seq_optimizer.proofs.Sizes.{size_read, sizes_many}
