@@ -9,8 +9,12 @@ mod keys;
 mod naming;
 mod optimising;
 mod placing;
+#[cfg(test)]
+mod plain;
 mod stats;
 mod table;
+#[cfg(test)]
+mod tests;
 
 pub use bounds::bounds_of;
 pub use costs::{cost, estimate};
