@@ -3,6 +3,7 @@ pub mod Chosen
 pub mod Costed
 pub mod Filled
 pub mod Fitting
+pub mod Intervals
 pub mod Least
 pub mod Merging
 pub mod NoVariables

@@ -1,4 +1,6 @@
 //! The costs of all trees of a query, plainly, for the tests.
+ghost use Rattle.std.specs.Prelude.{◌<◌};
+
 use crate::VarStats;
 use crate::tests::{Conjunct, Sample, Term, plan_cost};
 use plan_tree::Method;
@@ -185,11 +187,33 @@ fn scan_costs(alloc: Global, sample: &Sample, var: u32) -> Result<Vec<u64>, Allo
     Ok(costs)
 }
 
-// The costs of all trees of a set.
-fn all_costs(
+// The costs of the joins of a tree with others.
+fn put_sums(costs: &mut Vec<u64>, first: u64, others: &[u64], step: u64) -> Result<(), AllocError> {
+    for other in others {
+        costs.push(first.saturating_add(*other).saturating_add(step).min(LIMIT))?;
+    }
+    Ok(())
+}
+
+// The costs of the joins of the trees of two sets.
+fn put_joins(
+    costs: &mut Vec<u64>,
+    firsts: &[u64],
+    others: &[u64],
+    step: u64,
+) -> Result<(), AllocError> {
+    for first in firsts {
+        put_sums(costs, *first, others, step)?;
+    }
+    Ok(())
+}
+
+// The costs of all trees of a set, from those of the smaller sets.
+fn set_costs(
     alloc: Global,
     sample: &Sample,
     method: Method,
+    table: &[Vec<u64>],
     set: u32,
 ) -> Result<Vec<u64>, AllocError> {
     if set.count_ones() == 1 {
@@ -198,18 +222,35 @@ fn all_costs(
     let mut costs = Vec::new(alloc);
     for first in 1..set {
         let second = set - first;
-        if first & second != 0 {
-            continue;
-        }
-        let step = step(sample, method, first, second);
-        let others = all_costs(alloc, sample, method, second)?;
-        for a in all_costs(alloc, sample, method, first)?.as_slice() {
-            for b in others.as_slice() {
-                costs.push(a.saturating_add(*b).saturating_add(step).min(LIMIT))?;
+        if first & second == 0 {
+            let step = step(sample, method, first, second);
+            if let (Some(a), Some(b)) = (table.get(first as usize), table.get(second as usize)) {
+                put_joins(&mut costs, a.as_slice(), b.as_slice(), step)?;
             }
         }
     }
     Ok(costs)
+}
+
+// The costs of all trees of so many variables.
+fn all_costs(
+    alloc: Global,
+    sample: &Sample,
+    method: Method,
+    vars: u32,
+) -> Result<Vec<u64>, AllocError>
+    requires { vars < 7 }
+{
+    let mut table: Vec<Vec<u64>> = Vec::new(alloc);
+    table.push(Vec::new(alloc))?;
+    for set in 1..1u32 << vars {
+        let costs = set_costs(alloc, sample, method, table.as_slice(), set)?;
+        table.push(costs)?;
+    }
+    match table.pop() {
+        Some(costs) => Ok(costs),
+        None => Ok(Vec::new(alloc)),
+    }
 }
 
 // How many trees there are without an index.
@@ -223,7 +264,7 @@ fn no_tree_of_a_random_query_costs_less_than_its_plan(rt: HostRuntime) -> Result
         let vars = 1 + round % 4;
         let sample = dice.sample(alloc, vars)?;
         for method in [Method::Hash, Method::Merge] {
-            let costs = all_costs(alloc, &sample, method, (1u32 << vars) - 1)?;
+            let costs = all_costs(alloc, &sample, method, vars)?;
             let least = costs.as_slice().iter().copied().min();
             assert_eq!(rt;
                 Some(plan_cost(alloc, &sample, method)?),

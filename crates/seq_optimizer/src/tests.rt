@@ -1,12 +1,12 @@
-ghost use Rattle.std.specs.Prelude.{◌≡◌, ◌≤◌, ◌×◌, ℕ, true, All, IfOk, IfSome, IsTrue, length};
-ghost use Rattle.std.specs.Option.{option_map};
+ghost use Rattle.std.specs.Prelude.{◌≡◌, IfOk, IfSome, IsTrue, Some};
 ghost use Rattle.rel_meaning.specs.Expression.{expression_of, question_of};
+ghost use Rattle.rel_meaning.specs.Typing.{truth_type, type_of};
 ghost use Rattle.seq_optimizer.specs.Bounds.{IsTyped};
 ghost use Rattle.seq_optimizer.specs.Costs.{CanPlan, IsInterval};
 
 use crate::{VarStats, VarStatsList, bounds_of, cost, estimate, optimise};
 use lists::Sequence;
-use plan_tree::{Method, Tree, Way};
+use plan_tree::{Method, Plan, Tree, Way};
 use rel_meaning::{CompareOp, Expr, Query, Var, VarList};
 use rows::{Bound, Interval, Text, Value};
 use std::alloc::{AllocError, Global};
@@ -170,11 +170,55 @@ fn query(alloc: Global, sample: &Sample) -> Result<Query, AllocError> {
     })
 }
 
-// The same, whose test is well typed.
-fn typed_query(alloc: Global, sample: &Sample) -> Result<Query, AllocError>
+// A column, or a truth value, where all columns hold truth values.
+fn truth_operand(text: &str) -> Result<Expr, Fail>
+    ensures { IfOk result (λ e. type_of (expression_of e) (λ v c. Some truth_type) ≡ Some truth_type) }
+{
+    match text {
+        "t" => Ok(Expr::Truth(true)),
+        "f" => Ok(Expr::Truth(false)),
+        _ => {
+            let (var, col) = text.split_once('.').ok_or("no column")?;
+            Ok(Expr::Column {
+                var: number(var)?,
+                col: number(col)?,
+            })
+        }
+    }
+}
+
+// A query whose test is a comparison of such operands.
+fn compared(
+    alloc: Global,
+    op: CompareOp,
+    left: Expr,
+    right: Expr,
+) -> Result<Query, AllocError>
+    requires left { type_of (expression_of left) (λ v c. Some truth_type) ≡ Some truth_type }
+    requires right { type_of (expression_of right) (λ v c. Some truth_type) ≡ Some truth_type }
     ensures { IfOk result (λ q. IsTyped (question_of q).test) }
 {
-    query(alloc, sample)
+    let vars = vars(alloc, 1)?;
+    let left = Box::new(alloc, left)?;
+    let right = Box::new(alloc, right)?;
+    Ok(Query {
+        vars,
+        targets: Sequence::new(alloc),
+        test: Some(Expr::Compare { op, left, right }),
+        unique: false,
+        keys: Sequence::new(alloc),
+    })
+}
+
+fn truth_query(alloc: Global, text: &str) -> Result<Query, Fail>
+    ensures { IfOk result (λ q. IsTyped (question_of q).test) }
+{
+    let (left, rest) = text.split_once(' ').ok_or("no operator")?;
+    let (middle, right) = rest.split_once(' ').ok_or("no right side")?;
+    let operator = op(middle)?;
+    let left = truth_operand(left)?;
+    let right = truth_operand(right)?;
+    Ok(compared(alloc, operator, left, right)?)
 }
 
 // A tree with the numbers of its key pairs and tests.
@@ -235,6 +279,20 @@ pub(crate) fn plan_cost(alloc: Global, sample: &Sample, method: Method) -> Resul
     Ok(optimise(alloc, &query, &stats, method)?.cost)
 }
 
+// The plan, and what its tree costs.
+fn priced(
+    alloc: Global,
+    query: &Query,
+    stats: &VarStatsList,
+    method: Method,
+) -> Result<(Plan, u64), AllocError>
+    requires { CanPlan (question_of query.now) stats.now }
+{
+    let plan = optimise(alloc, query, stats, method)?;
+    let price = cost(query, stats, &plan.tree);
+    Ok((plan, price))
+}
+
 // The plan, what it costs, and how many rows all variables are taken to have.
 fn planned(alloc: Global, sample: &Sample, method: Method) -> Result<String, Fail> {
     let query = query(alloc, sample)?;
@@ -242,13 +300,12 @@ fn planned(alloc: Global, sample: &Sample, method: Method) -> Result<String, Fai
     if !can_plan(&query, &stats) {
         return Err(Fail::from("more than six variables"));
     }
-    let plan = optimise(alloc, &query, &stats, method)?;
-    let price = cost(&query, &stats, &plan.tree);
+    let (plan, price) = priced(alloc, &query, &stats, method)?;
     if price != plan.cost {
         return Err(Fail::from("the tree costs another sum"));
     }
     let tree = spelled(alloc, &plan.tree)?;
-    let rows = estimate(&plan.query, &stats);
+    let rows = estimate(&query, &stats);
     Ok(format!(in alloc; "{tree} costs {price} of {rows}")?)
 }
 
@@ -299,21 +356,34 @@ fn each_query_has_its_plan(rt: HostRuntime) -> Result<(), Fail> {
 }
 
 // The bounds of the first column of the first variable.
-fn bounded(alloc: Global, sample: &Sample) -> Result<String, Fail> {
-    let query = typed_query(alloc, sample)?;
+fn bounded(alloc: Global, test: &str) -> Result<String, Fail> {
+    let query = truth_query(alloc, test)?;
     let mut text = String::new(alloc);
     for bound in bounds_of(alloc, &query, 0, 0)?.items() {
         let Bound { op, value } = bound;
-        text.push_str(format!(in alloc; "{op:?} {value:?};")?.as_str())?;
+        text.push_str(format!(in alloc; "{op:?} {value:?}")?.as_str())?;
     }
     Ok(text)
 }
 
+const BOUNDS: &str = "0.0 > t | More Truth(true)
+t >= 0.0 | AtMost Truth(true)
+f = 0.0 | Equal Truth(false)
+0.0 < f | Less Truth(false)
+f < 0.0 | More Truth(false)
+0.0 <= t | AtMost Truth(true)
+t <= 0.0 | AtLeast Truth(true)
+0.0 != t | 
+0.1 = t | 
+1.0 = t | 
+0.0 = 0.1 | 
+t = f | ";
+
 #[test]
-fn each_comparison_with_a_constant_is_a_bound(rt: HostRuntime) -> Result<(), Fail> {
-    let test = "0.0 > 5;6 >= 0.0;-7 = 0.0;0.1 < 3;0.0 != 4;1.0 = 2;0.0 = 0.1;0.0 < -8;9 < 10";
-    let sample = read_sample(rt.alloc(), "1,1 1,1", test)?;
-    let wanted = "More Number(5);AtMost Number(6);Equal Number(-7);Less Number(-8);";
-    assert_eq!(rt; bounded(rt.alloc(), &sample)?.as_str(), wanted);
+fn a_comparison_with_a_constant_is_a_bound(rt: HostRuntime) -> Result<(), Fail> {
+    for line in BOUNDS.lines() {
+        let (test, wanted) = line.split_once(" | ").unwrap_or((line, ""));
+        assert_eq!(rt; bounded(rt.alloc(), test)?.as_str(), wanted, "{test}");
+    }
     Ok(())
 }
