@@ -19,7 +19,7 @@ mod tests;
 pub use bounds::bounds_of;
 pub use costs::{cost, estimate};
 pub use optimising::optimise;
-pub use stats::{VarStats, VarStatsList};
+pub use stats::{VarStats, VarStatsList, VarStatsTable};
 
 /// No memory is left.
 pub type NoMemory = std::alloc::AllocError;

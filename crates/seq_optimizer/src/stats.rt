@@ -21,3 +21,6 @@ impl Duplicate for VarStats {
 
 /// One entry for each range variable of a query, in their order.
 pub type VarStatsList = Sequence<VarStats>;
+
+/// The stats of several queries, in their order.
+pub type VarStatsTable = Sequence<VarStatsList>;
