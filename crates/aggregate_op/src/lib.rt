@@ -3,5 +3,7 @@
 #![tactic(auto)]
 
 mod fold;
+#[cfg(test)]
+mod tests;
 
 pub use fold::{Fold, FoldOp, FoldOpList, FoldPlace, FoldPlaceList};

@@ -41,7 +41,7 @@ insert_front : (p : LayoutPart) (ps : List LayoutPart) → ComesFirst p ps → i
 insert_front p [] all = refl
 insert_front p (q ∷ qs) all = let k : nat_lt p.var q.var ≡ true = (let h = all.0 in grind (arith, nat_tests)) in ap (λ b. cond b (p ∷ q ∷ qs) (q ∷ insert_part p qs)) k
 
-above_filter : (f : LayoutPart → Bool) (p : LayoutPart) (ps : List LayoutPart) → ComesFirst p ps → ComesFirst p (filter f ps)
+pub above_filter : (f : LayoutPart → Bool) (p : LayoutPart) (ps : List LayoutPart) → ComesFirst p ps → ComesFirst p (filter f ps)
 above_filter f p [] all = tt
 above_filter f p (q ∷ qs) all = elim (f q) as (λ b. ComesFirst p (cond b (q ∷ filter f qs) (filter f qs))) [ true ↦ (all.0, above_filter f p qs all.1) | false ↦ above_filter f p qs all.1 ]
 

@@ -8,10 +8,16 @@ use Rattle.rows.specs.declared.plain.Column.{Column}
 use Rattle.rows.specs.declared.plain.KeyPair.{KeyPair}
 use Rattle.rows.specs.declared.plain.LayoutPart.{LayoutPart}
 use Rattle.rows.specs.RowBytes.{row_bytes}
-use Rattle.rel_meaning.specs.Expression.{Expression, column, compare, Question}
+use Rattle.rel_meaning.specs.Expression.{Expression, column, compare, Question, number}
 use Rattle.rel_meaning.specs.declared.expr.CompareOp.TheVariants as op
 use Rattle.rel_meaning.specs.declared.query.Table.{Table}
 use Rattle.rel_meaning.specs.Meaning.{meaning, layout_column}
+use Rattle.rows.specs.declared.plain.Bound.{Bound}
+use Rattle.rows.specs.declared.plain.BoundOp.{BoundOp}
+use Rattle.rows.specs.declared.plain.BoundOp.TheVariants as bounds
+use Rattle.aggregate_op.specs.declared.fold.Fold.{Fold}
+use Rattle.aggregate_op.specs.declared.fold.FoldOp.TheVariants.{Count}
+use Rattle.aggregate_op.specs.declared.fold.FoldPlace.TheVariants.{Op}
 use Rattle.plan_tree.specs.declared.tree.Method.TheVariants as method
 use Rattle.plan_tree.specs.declared.tree.Way.TheVariants as way
 use Rattle.plan_tree.specs.declared.fragment.Source.{Source}
@@ -20,7 +26,8 @@ use Rattle.plan_tree.specs.Conjuncts.{conjuncts}
 use Rattle.plan_tree.specs.Trees.{Shape, scan, join, IsPlaced, HasMethods}
 use Rattle.plan_tree.specs.Combining.{merged}
 use Rattle.plan_tree.specs.Rows.{one_part}
-use Rattle.plan_tree.specs.Pieces.{Piece, Ending, building, answering, sorting}
+use Rattle.plan_tree.specs.Intervals.{interval_end, lower_end, rank_high, rank_low}
+use Rattle.plan_tree.specs.Pieces.{Piece, Ending, building, answering, folding, sorting}
 use Rattle.plan_tree.specs.Fragments.{Stored, values_of, value_at, rows_in}
 
 -- employees with a number and the number of a department, one without a department, and departments with a number and a floor
@@ -28,10 +35,10 @@ use Rattle.plan_tree.specs.Fragments.{Stored, values_of, value_at, rows_in}
 abbrev column_named : List ℕ → Bool → Column
 column_named name nullable = record { name = name; col_type = col.Int4; nullable = nullable }
 
-abbrev emp_columns : List Column
+abbrev pub emp_columns : List Column
 emp_columns = column_named (codes "eno") false ∷ column_named (codes "dept") true ∷ []
 
-abbrev dept_columns : List Column
+abbrev pub dept_columns : List Column
 dept_columns = column_named (codes "dno") true ∷ column_named (codes "floor") false ∷ []
 
 abbrev emp_rows : List (List Value)
@@ -97,10 +104,10 @@ files = record { pages = pages; entries = λ file. record { page = 0; slot = 1 }
 read_again : rows_in dept_columns (map (row_bytes dept_columns) dept_rows) ≡ dept_rows
 read_again = refl
 
-abbrev emp_layout : List LayoutPart
+abbrev pub emp_layout : List LayoutPart
 emp_layout = one_part 0 (map layout_column emp_columns)
 
-abbrev dept_layout : List LayoutPart
+abbrev pub dept_layout : List LayoutPart
 dept_layout = one_part 1 (map layout_column dept_columns)
 
 abbrev scanning : Source → List Column → List LayoutPart → Ending → ℕ → Piece
@@ -119,7 +126,7 @@ answering_end = answering question.targets question.unique question.keys
 
 -- employees are built by their department, and departments probe them
 
-abbrev hash_pieces : Source → ℕ → List Piece
+abbrev pub hash_pieces : Source → ℕ → List Piece
 hash_pieces from positions =
     scanning (source.Heap 0 0) emp_columns emp_layout (building (key.build ∷ [])) 2
     ∷ record {
@@ -141,7 +148,7 @@ index_value = refl
 
 -- both sides are sorted by their departments and merged
 
-abbrev merge_pieces : List Piece
+abbrev pub merge_pieces : List Piece
 merge_pieces =
     scanning (source.Heap 0 0) emp_columns emp_layout (sorting (record { column = 1; down = false } ∷ [])) 2
     ∷ scanning (source.Heap 1 1) dept_columns dept_layout (sorting (record { column = 0; down = false } ∷ [])) 1
@@ -150,3 +157,59 @@ merge_pieces =
 
 merge_value : value_at (values_of files merge_pieces) 2 ≡ answer
 merge_value = refl
+
+-- ---- a kept answer is scanned by a probe without keys
+
+abbrev kept_layout : List LayoutPart
+kept_layout = one_part 0 (layout_column (column_named (codes "floor") true) ∷ [])
+
+-- how many there are, whatever the floor
+abbrev counted : Fold
+counted = record { groups = 0; ops = Count ∷ []; places = Op 0 ∷ [] }
+
+abbrev pub kept_pieces : List Piece
+kept_pieces =
+    scanning (source.Heap 1 1) dept_columns dept_layout (answering ((record { name = codes "floor"; expr = column 1 1 }) ∷ []) true []) 1
+    ∷ (
+    record {
+      statement = 1;
+      pipe = record {
+        source = source.One;
+        columns = [];
+        tests = [];
+        probes = record { input = 0; keys = []; tests = compare op.More (column 0 0) (number (pos 1)) ∷ []; layout = kept_layout } ∷ [];
+      };
+      end = folding ((record { name = codes "floor"; expr = column 0 0 }) ∷ []) counted;
+      layout = kept_layout;
+      positions = 1;
+      pages = 0;
+      time = 1;
+    }
+    ) ∷ []
+
+-- two floors are above 1
+kept_value : value_at (values_of files kept_pieces) 1 ≡ (Number (pos 2) ∷ Number (pos 2) ∷ []) ∷ []
+kept_value = refl
+
+-- ---- the interval of bounds over the keys 5, 5, 7 and 9
+
+abbrev number_keys : List Value
+number_keys = Number (pos 5) ∷ Number (pos 5) ∷ Number (pos 7) ∷ Number (pos 9) ∷ []
+
+abbrev bound : BoundOp → ℕ → Bound
+bound o n = record { op = o; value = Number (pos n) }
+
+low_ranks : map (λ n. rank_low (Number (pos n)) number_keys) (5 ∷ 6 ∷ 9 ∷ 10 ∷ []) ≡ 0 ∷ 2 ∷ 3 ∷ 4 ∷ []
+low_ranks = refl
+
+high_ranks : map (λ n. rank_high (Number (pos n)) number_keys) (5 ∷ 6 ∷ 9 ∷ 10 ∷ []) ≡ 2 ∷ 2 ∷ 4 ∷ 4 ∷ []
+high_ranks = refl
+
+abbrev interval : List Bound → List ℕ
+interval limits = lower_end limits number_keys ∷ interval_end limits number_keys ∷ []
+
+above_five : interval (bound bounds.More 5 ∷ bound bounds.AtMost 7 ∷ []) ≡ 2 ∷ 3 ∷ []
+above_five = refl
+
+none_between : interval (bound bounds.More 9 ∷ bound bounds.Less 5 ∷ []) ≡ 4 ∷ 4 ∷ []
+none_between = refl

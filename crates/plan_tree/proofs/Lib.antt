@@ -1,4 +1,5 @@
-mod Examples
+pub mod Examples
+mod FormedExamples
 pub mod Lines
 pub mod Sums
 pub mod Choosing
@@ -13,3 +14,8 @@ pub mod TreeMeaning
 pub mod Typing
 pub mod Resolved
 pub mod TreeAnswers
+pub mod IndexScan
+pub mod IndexReads
+pub mod Elements
+pub mod Shapes
+pub mod Positions

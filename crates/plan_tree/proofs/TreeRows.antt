@@ -26,6 +26,7 @@ use Rattle.plan_tree.proofs.Agreement.{Agree, eval_agrees, first_of_both, second
 use Rattle.plan_tree.proofs.Placement.{met_if, at_node, holds, placed_node, key_is, within_more, left_more, right_more}
 use Rattle.plan_tree.proofs.Combined.{or_part, Distinct, part_of_merged, distinct_merged}
 use Rattle.plan_tree.proofs.Ascending.{merged_ascends}
+use Rattle.plan_tree.proofs.Elements.{all_append}
 use Rattle.plan_tree.proofs.Joined.{Stands, KeysIn, stands_none, stands_scan, stands_join, stands_same}
 
 -- the variables that a tree scans
@@ -112,10 +113,6 @@ met_if_agrees vars (c ∷ cs) d e agree = λ i. by (at_node false vars c) refl i
   by : (b : Bool) → at_node false vars c ≡ b → cond b (is_met d c) true ≡ cond b (is_met e c) true
   by true h = ap is_true (eval_agrees vars d e agree c (node_within false vars c h))
   by false h = refl
-
-all_append : {X : Type 0} (P : X → Type 0) (xs ys : List X) → AllByRecursion P xs → AllByRecursion P ys → AllByRecursion P (xs ++ ys)
-all_append P [] ys a b = b
-all_append P (x ∷ xs) ys a b = (a.0, all_append P xs ys a.1 b)
 
 all_leaves : (P : ℕ → Type 0) (t : Shape) → ((v : ℕ) → has t v ≡ true → P v) → AllByRecursion P (leaves t)
 all_leaves P (one tests) h = tt

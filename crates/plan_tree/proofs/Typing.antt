@@ -1,6 +1,6 @@
 -- Rows, tests and keys are typed for the layouts of a tree's nodes.
 use Rattle.std.proofs.Common.{◌≡◌, ℕ, ◌+◌, ◌<◌, ◌≤◌, suc, zero, Bool, true, false, cond, ◌&&◌, ◌==◌, nat_lt, List, [], ◌∷◌, ◌++◌, length, map, Option, Some, None, is_some, refl, sym, ap, ◌∙◌, subst, arith, slice_get}
-use Rattle.std.specs.List.{flat_map, filter, AllByRecursion}
+use Rattle.std.specs.List.{filter, AllByRecursion}
 use Rattle.std.specs.Option.{option_map, option_and_then}
 use Rattle.std.proofs.lemmas.Bool.Decides.{nat_tests}
 use Rattle.rows.specs.declared.value.Value.{Value}
@@ -19,6 +19,7 @@ use Rattle.plan_tree.specs.Combining.{part_of, values_of, row_in, over, combined
 use Rattle.plan_tree.specs.Rows.{kept, keys_match, probed}
 use Rattle.plan_tree.proofs.Agreement.{first_of_both, second_of_both}
 use Rattle.plan_tree.proofs.Combined.{or_part, Distinct}
+use Rattle.plan_tree.proofs.Elements.{all_append, all_filter, all_flat, all_map}
 
 abbrev pub part_type : Option (List LayoutColumn) → ℕ → Option LayoutColumn
 part_type None column = None
@@ -99,28 +100,12 @@ module _ (layout first second : List LayoutPart) (parts : (var : ℕ) → part_o
         by var column c None i h = row_is_typed second b fb var column c h
         by var column c (Some cs) i h = row_is_typed first a fa var column c (ap (λ o. part_type o column) i ∙ h)
 
-  kept_all : {X : Type 0} (P : X → Type 0) (p : X → Bool) (xs : List X) → AllByRecursion P xs → AllByRecursion P (filter p xs)
-  kept_all P p [] all = tt
-  kept_all P p (x ∷ xs) all = elim (p x) as (λ b. AllByRecursion P (cond b (x ∷ filter p xs) (filter p xs))) [ true ↦ (all.0, kept_all P p xs all.1) | false ↦ kept_all P p xs all.1 ]
-
-  append_all : {X : Type 0} (P : X → Type 0) (xs ys : List X) → AllByRecursion P xs → AllByRecursion P ys → AllByRecursion P (xs ++ ys)
-  append_all P [] ys a b = b
-  append_all P (x ∷ xs) ys a b = (a.0, append_all P xs ys a.1 b)
-
-  map_all : {X Y : Type 0} (P : X → Type 0) (Q : Y → Type 0) (f : X → Y) (step : (x : X) → P x → Q (f x)) (xs : List X) → AllByRecursion P xs → AllByRecursion Q (map f xs)
-  map_all P Q f step [] all = tt
-  map_all P Q f step (x ∷ xs) all = (step x all.0, map_all P Q f step xs all.1)
-
-  flat_all : {X Y : Type 0} (P : X → Type 0) (Q : Y → Type 0) (f : X → List Y) (step : (x : X) → P x → AllByRecursion Q (f x)) (xs : List X) → AllByRecursion P xs → AllByRecursion Q (flat_map f xs)
-  flat_all P Q f step [] all = tt
-  flat_all P Q f step (x ∷ xs) all = append_all Q (f x) (flat_map f xs) (step x all.0) (flat_all P Q f step xs all.1)
-
   pub probed_fits : (keys : List KeyPair) (tests : List Expression) (xs ys : List (List Value)) → AllByRecursion (IsRowIn first) xs → AllByRecursion (IsRowIn second) ys →
       AllByRecursion (IsRowIn layout) (kept layout tests (probed layout first second keys xs ys))
   probed_fits keys tests xs ys fx fy =
-      kept_all (IsRowIn layout) (λ row. all_met tests (column_in layout row)) _
-      (flat_all (IsRowIn second) (IsRowIn layout) (λ row. map (λ b. combined layout first second b row) (filter (λ b. keys_match first second keys b row) xs))
-      (λ row fr. map_all (IsRowIn first) (IsRowIn layout) (λ b. combined layout first second b row) (λ b fb. combined_fits b row fb fr) _ (kept_all (IsRowIn first) (λ b. keys_match first second keys b row) xs fx)) ys fy)
+      all_filter (IsRowIn layout) (λ row. all_met tests (column_in layout row)) _
+      (all_flat (IsRowIn second) (IsRowIn layout) (λ row. map (λ b. combined layout first second b row) (filter (λ b. keys_match first second keys b row) xs))
+      (λ row fr. all_map (IsRowIn first) (IsRowIn layout) (λ b. combined layout first second b row) (λ b fb. combined_fits b row fb fr) _ (all_filter (IsRowIn first) (λ b. keys_match first second keys b row) xs fx)) ys fy)
 
 -- the type of an expression depends on the variables that it names alone
 
@@ -186,10 +171,6 @@ module _ (vars : ℕ → Bool) (f : ℕ → ℕ → Option LayoutColumn) (known 
 truth_pick : (b : Bool) → is_truth (cond b (Some truth_type) None) ≡ true → b ≡ true
 truth_pick true h = refl
 truth_pick false h = cc
-
-all_append : {X : Type 0} (P : X → Type 0) (xs ys : List X) → AllByRecursion P xs → AllByRecursion P ys → AllByRecursion P (xs ++ ys)
-all_append P [] ys a b = b
-all_append P (x ∷ xs) ys a b = (a.0, all_append P xs ys a.1 b)
 
 -- each conjunct of a test is a truth value
 pub operands_typed : (f : ℕ → ℕ → Option LayoutColumn) (t : Expression) → is_truth (type_of t f) ≡ true → AllByRecursion (λ c. is_truth (type_of c f) ≡ true) (operands t)

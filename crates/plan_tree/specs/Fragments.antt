@@ -38,12 +38,17 @@ page_items stored file page = slice_index_or (stored.pages file) page []
 abbrev pub rows_in : List Column → List (List ℕ) → List (List Value)
 rows_in columns items = flat_map (λ item. option_to_list (row_in columns item)) items
 
--- the row of an index's entry
+-- the bytes to which an entry leads
 abbrev pub entry_item : Stored → ℕ → EntryPlace → Option (List ℕ)
 entry_item stored heap_file at = slice_get (page_items stored heap_file at.page) at.slot
 
+-- the row whose bytes an entry leads to
+abbrev pub row_at : Stored → List Column → ℕ → EntryPlace → Option (List Value)
+row_at stored columns heap_file at = option_and_then (row_in columns) (entry_item stored heap_file at)
+
+-- the row of an entry by its number
 abbrev pub entry_row : Stored → List Column → ℕ → ℕ → ℕ → Option (List Value)
-entry_row stored columns heap_file file entry = option_and_then (λ at. option_and_then (row_in columns) (entry_item stored heap_file at)) (slice_get (stored.entries file) entry)
+entry_row stored columns heap_file file entry = option_and_then (row_at stored columns heap_file) (slice_get (stored.entries file) entry)
 
 -- ---- merges
 

@@ -11,3 +11,5 @@ pub mod WellFormed
 pub mod Ends
 pub mod Explained
 pub mod TreeLaws
+pub mod Intervals
+pub mod ShapeLaws
