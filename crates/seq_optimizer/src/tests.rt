@@ -188,12 +188,7 @@ fn truth_operand(text: &str) -> Result<Expr, Fail>
 }
 
 // A query whose test is a comparison of such operands.
-fn compared(
-    alloc: Global,
-    op: CompareOp,
-    left: Expr,
-    right: Expr,
-) -> Result<Query, AllocError>
+fn compared(alloc: Global, op: CompareOp, left: Expr, right: Expr) -> Result<Query, AllocError>
     requires left { type_of (expression_of left) (λ v c. Some truth_type) ≡ Some truth_type }
     requires right { type_of (expression_of right) (λ v c. Some truth_type) ≡ Some truth_type }
     ensures { IfOk result (λ q. IsTyped (question_of q).test) }
