@@ -150,7 +150,7 @@ module _ {D : Type 0} (g : Ghosts D) where
       map_of.files.items ≡ files_of tables → All IsStorable tables → AreWritten g P olds news → HoldTables g map_of tables news → slice_get tables number ≡ Some table →
       byte_lists table.items ≡ map (row_bytes columns) rows → length columns ≤ 32 → All (IsRowOf columns) rows → AllTell g olds → TellRows g map_of (file_number tables number) columns rows news
   tell_rows map_of tables P olds news number table columns rows files each w hold at same few are_rows tell =
-      let cut = are_pages (byte_lists table.items) (all_at IsStorable tables number table each at).1 in
+      let cut = are_pages (byte_lists table.items) (all_at IsStorable tables number table each at).fit in
       record {
         few = few;
         are_rows = are_rows;
@@ -158,7 +158,7 @@ module _ {D : Type 0} (g : Ghosts D) where
         cut = subst (λ (items : List (List ℕ)). ArePages items (table_blocks table)) same cut;
         number = pages_there tables map_of.files.items number (file_number tables number) table (table_blocks table) files refl each at cut;
         tell = still_tell P olds news w tell;
-        stand = hold number table (table_blocks table) at cut;
+        stand = (hold number table at).heap (table_blocks table) cut;
       }
 
   pub tell_kept : (map_of : FileMap) (us bs : List D) (other : ℕ) (columns : List Column) (rows : List (List Value)) → AreRead g us bs → TellRows g map_of other columns rows us → TellRows g map_of other columns rows bs

@@ -1,5 +1,5 @@
 -- Databases that are read back from drives.
-use Rattle.std.proofs.Common.{◌≡◌, ℕ, ◌+◌, ◌<◌, ◌≤◌, List, [], ◌∷◌, ◌++◌, length, map, take, Option, Some, None, Result, Ok, Err, refl, sym, ap, ap₂, subst, ◌∙◌, arith, inl, inr, IfOk, IfErr}
+use Rattle.std.proofs.Common.{◌≡◌, ℕ, ◌+◌, List, [], ◌∷◌, ◌++◌, length, map, take, Option, Some, Result, Err, refl, sym, ap, ap₂, subst, ◌∙◌, arith}
 use Rattle.std.specs.Prelude.{slice_get, All}
 use Rattle.std.proofs.lemmas.List.{length-map, map-append}
 use Rattle.std.proofs.lemmas.List.Elements.{All-push}
@@ -21,7 +21,7 @@ use Rattle.table_store.specs.Databases.{ReadCause, TellTables}
 use Rattle.table_store.specs.Readings.{TableCause, TellRows}
 use Rattle.table_store.proofs.Again.{tell_kept}
 use Rattle.table_store.proofs.Encoded.{take_one}
-use Rattle.table_store.proofs.Pages.{fault_earlier, get_below, read_none, read_trans, room_read, there}
+use Rattle.table_store.proofs.Pages.{fault_earlier, get_below, read_none, read_trans, there}
 
 abbrev pub columns_of_tables : List Table → List (List Column)
 columns_of_tables db = map (λ (t : Table). t.columns) db

@@ -1,7 +1,7 @@
 -- Databases that are laid on drives.
-use Rattle.std.proofs.Common.{◌≡◌, ◌≢◌, ℕ, ◌+◌, ◌<◌, ◌≤◌, Bool, List, [], ◌∷◌, ◌++◌, length, map, Option, Some, None, Result, Ok, Err, refl, sym, ap, subst, ◌∙◌, arith, inl, inr, IfOk, IfErr}
+use Rattle.std.proofs.Common.{◌≡◌, ℕ, ◌+◌, ◌<◌, ◌≤◌, List, [], ◌∷◌, ◌++◌, length, Option, Some, None, Result, Ok, Err, refl, sym, ap, subst, ◌∙◌, arith, inl, inr, IfOk, IfErr, IfSome}
 use Rattle.std.specs.Global.{Vec}
-use Rattle.std.specs.Prelude.{slice_get, ◌⊎◌, is_some, replicate, All}
+use Rattle.std.specs.Prelude.{slice_get, is_some, replicate, All}
 use Rattle.std.proofs.lemmas.List.{length-append, length-map, length-replicate, get_or-replicate}
 use Rattle.std.proofs.lemmas.List.Elements.{All-map, All-push}
 use Rattle.std.proofs.lemmas.Option.{slice_get-get_or}
@@ -10,24 +10,25 @@ use Rattle.xp_outside.specs.declared.drive.Drive.{Ghosts}
 use Rattle.heap_page.specs.declared.errors.StoreErr.{StoreErr}
 use Rattle.heap_page.specs.declared.errors.StoreErr.TheVariants.{DriveFault, DriveFull, NoMemory}
 use Rattle.heap_page.specs.declared.map.FileMap.{FileMap}
-use Rattle.heap_page.specs.declared.map.PageFile.{PageFile}
-use Rattle.heap_page.specs.Blocks.{ArePages, FitsAlone, byte_lists}
+use Rattle.heap_page.specs.Blocks.{ArePages, FitsAlone, blocks_of, byte_lists, item_weight}
 use Rattle.heap_page.specs.Maps.{address_of, drive_of, HasPage, IsMap}
 use Rattle.heap_page.specs.Pages.{page_of}
-use Rattle.heap_page.specs.Stores.{AreRead, AreWritten, HaveRoom, IsFull, IsRead, KeepsBut, StoreCause, TellsAt}
+use Rattle.heap_page.specs.Stores.{AreRead, AreWritten, HaveRoom, IsFull, KeepsBut, StoreCause, TellsAt}
 use Rattle.rows.specs.declared.plain.Column.{Column}
+use Rattle.rows.specs.declared.plain.KeyIndex.{KeyIndex}
 use Rattle.rows.specs.declared.plain.Relation.{Relation}
 use Rattle.rows.specs.declared.value.Value.{Value}
 use Rattle.rows.specs.RowBytes.{IsRowOf, row_bytes}
 use Rattle.rel_meaning.specs.declared.query.Table.{Table}
+use Rattle.key_index.specs.Files.{index_pages}
 use Rattle.table_store.specs.declared.files.StoredTable.{StoredTable}
 use Rattle.table_store.specs.declared.database.Laid.{Laid}
 use Rattle.table_store.specs.Databases.{AllFresh, AreKept, AreStored, IsKept, IsLaid, IsLaidOut, IsMapOf, IsStored, IsTableOf, LayCause, LayoutCause, MayStore}
-use Rattle.table_store.specs.Files.{IsStorable, encodings, file_number, files_of}
+use Rattle.table_store.specs.Files.{IsStorable, IsStorableIndex, encodings, file_number, files_of, index_numbers}
 use Rattle.table_store.specs.Images.{HoldImage, HoldTables, IsTablePlace}
 use Rattle.table_store.specs.Readings.{AllTell, TellRows}
 use Rattle.table_store.proofs.Addresses.{address_below}
-use Rattle.table_store.proofs.Filed.{all_at, pages_there}
+use Rattle.table_store.proofs.Filed.{all_at, index_pages_there, pages_there}
 use Rattle.table_store.proofs.Pages.{get_below, get_last, one_at, there}
 use Rattle.table_store.proofs.Stored.{room_after}
 
@@ -35,6 +36,13 @@ pub storable : (relation : Relation) (table : Table) (items : List (Vec ℕ)) �
 storable relation table items h e =
     let count : length items ≡ length table.rows = sym (length-map items (λ v. v.items)) ∙ (ap length e ∙ length-map table.rows (row_bytes table.columns)) in
     (omega (arith, h.short.0, count), subst (All FitsAlone) (sym e) (All-map FitsAlone (row_bytes table.columns) table.rows h.short.1))
+
+pub storable_table : (items : List (Vec ℕ)) (table : StoredTable) → table.items ≡ items → (length items ≤ 1000000) × All FitsAlone (byte_lists items) → IfSome table.index (IsStorableIndex (length (blocks_of item_weight 8172 (byte_lists items)))) → IsStorable table
+storable_table items table e h k = record {
+  few = omega (arith, ap length e, h.0);
+  fit = subst (λ (vs : List (Vec ℕ)). All FitsAlone (byte_lists vs)) (sym e) h.1;
+  index = subst (λ (vs : List (Vec ℕ)). IfSome table.index (IsStorableIndex (length (blocks_of item_weight 8172 (byte_lists vs))))) (sym e) k;
+}
 
 -- ---- the tables one after the other
 
@@ -79,6 +87,27 @@ one_numbered tables count heaps heap h is below = record {
     | inr k ↦ sym k.1 ∙ (is ∙ ap (file_number tables) (sym (k.0 ∙ h.done)))
   ];
   within = All-push (λ other. other < length (files_of tables)) heaps heap h.within below;
+}
+
+-- the numbers of the indexes so far
+pub record Planned (tables : List StoredTable) (count : ℕ) (indexes : List (Option KeyIndex)) : Type 0 where
+  pub done : length indexes ≡ count
+  pub each : (i : ℕ) (table : StoredTable) (index : Option KeyIndex) → slice_get tables i ≡ Some table → slice_get indexes i ≡ Some index → index ≡ index_numbers tables i table
+
+pub none_planned : (tables : List StoredTable) → Planned tables 0 []
+none_planned tables = record { done = refl; each = λ i table index at e. absurd cc }
+
+pub one_planned : (tables : List StoredTable) (count : ℕ) (indexes : List (Option KeyIndex)) (table : StoredTable) (index : Option KeyIndex) → Planned tables count indexes → slice_get tables count ≡ Some table → index ≡ index_numbers tables count table →
+    Planned tables (count + 1) (indexes ++ index ∷ [])
+one_planned tables count indexes table index h at is = record {
+  done = length-append indexes (index ∷ []) ∙ ap (λ (n : ℕ). n + 1) h.done;
+  each = λ i other found at_other e. elim (get_last indexes index i found e) [
+    | inl k ↦ h.each i other found at_other k
+    | inr k ↦ (
+        let here : i ≡ count = k.0 ∙ h.done in
+        let same : table ≡ other = one_at tables i table other (rw here at) at_other in
+        sym k.1 ∙ (is ∙ (ap (λ (n : ℕ). index_numbers tables n table) (sym here) ∙ ap (index_numbers tables i) same)))
+  ];
 }
 
 -- ---- what stays of drives
@@ -166,9 +195,17 @@ module _ {D : Type 0} (g : Ghosts D) (map_of : FileMap) (tables : List StoredTab
             let file = file_number tables number in
             let within = address_below map_of file page is_map (in_file number table blocks page items at_table cut here) in
             let fits = room d drive at in
-            let stands = hold number table blocks at_table cut page items drive here (rw on at) in
+            let stands = (hold number table at_table).heap blocks cut page items drive here (rw on at) in
             told_page pages (address_of map_of file page) (page_of file page items) (omega (arith, within, fits, on, is.0, one.size, ap (λ (e : ℕ). Rattle.heap_page.specs.Maps.needs_of map_of e) on))
             (subst (λ (ps : Option (List (List ℕ))). TellsAt ps (address_of map_of file page) (page_of file page items)) told stands);
+        indexes = λ number table index page bytes at_table has here on.
+            let file = file_number tables number + 1 in
+            let own = index_pages_there tables map_of.files.items number file table index files refl at_table has in
+            let within = address_below map_of file page is_map (own.0, own.1, omega (arith, own.2, get_below (index_pages file index.entries) page bytes here)) in
+            let fits = room d drive at in
+            let stands = (hold number table at_table).index index has page bytes drive here (rw on at) in
+            told_page pages (address_of map_of file page) bytes (omega (arith, within, fits, on, is.0, one.size, ap (λ (e : ℕ). Rattle.heap_page.specs.Maps.needs_of map_of e) on))
+            (subst (λ (ps : Option (List (List ℕ))). TellsAt ps (address_of map_of file page) bytes) told stands);
         others = λ address below out. is.1 address (omega (arith, below, one.size)) out;
       }
 

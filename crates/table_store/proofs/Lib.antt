@@ -1,4 +1,5 @@
 mod Addresses
+mod IndexPages
 mod Again
 mod Cut
 mod Encoded
@@ -7,3 +8,4 @@ pub mod Pages
 mod Stored
 pub mod Laying
 pub mod DatabaseRead
+pub mod Placed

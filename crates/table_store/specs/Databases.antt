@@ -1,5 +1,5 @@
 -- A database that is laid on drives.
-use Rattle.std.specs.Prelude.{◌≡◌, ℕ, ◌<◌, ◌≤◌, List, length, map, slice_get, Option, Some, None, is_some, All, ⊤}
+use Rattle.std.specs.Prelude.{◌≡◌, ℕ, ◌<◌, ◌≤◌, List, length, slice_get, Option, Some, None, is_some, IfSome, All, ⊤}
 use Rattle.xp_outside.specs.Drives.{IsFresh}
 use Rattle.xp_outside.specs.declared.drive.Drive.{Ghosts}
 use Rattle.heap_page.specs.declared.errors.FetchErr.{FetchErr}
@@ -11,13 +11,16 @@ use Rattle.heap_page.specs.Blocks.{byte_lists}
 use Rattle.heap_page.specs.Maps.{IsMap, HasPage}
 use Rattle.heap_page.specs.Stores.{HaveRoom, IsFault, IsFull}
 use Rattle.rows.specs.declared.plain.Column.{Column}
+use Rattle.rows.specs.declared.plain.KeyIndex.{KeyIndex}
 use Rattle.rows.specs.declared.plain.Relation.{Relation}
 use Rattle.rows.specs.declared.value.Value.{Value}
 use Rattle.rows.specs.RowBytes.{IsRowOf, row_bytes}
 use Rattle.rel_meaning.specs.declared.query.Table.{Table}
+use Rattle.table_store.specs.declared.files.StoredIndex.{StoredIndex}
 use Rattle.table_store.specs.declared.files.StoredTable.{StoredTable}
 use Rattle.table_store.specs.declared.database.Laid.{Laid}
-use Rattle.table_store.specs.Files.{encodings, file_number, files_of}
+use Rattle.table_store.specs.Entries.{IsIndexOf, type_at}
+use Rattle.table_store.specs.Files.{encodings, file_number, files_of, index_numbers, table_blocks}
 use Rattle.table_store.specs.Images.{HoldImage}
 use Rattle.table_store.specs.Readings.{AllTell, TellRows}
 
@@ -25,12 +28,13 @@ use Rattle.table_store.specs.Readings.{AllTell, TellRows}
 abbrev pub AreShort : List Column → List (List Value) → Type 0
 AreShort columns rows = (length rows ≤ 1000000) × All (λ row. length (row_bytes columns row) ≤ 8168) rows
 
--- a table of the relation's columns, at most 32, that can be stored
+-- a table of the relation's columns, at most 32, that can be stored; an index is on one of them
 pub record IsTableOf (relation : Relation) (table : Table) : Type 0 where
   pub columns : table.columns ≡ relation.columns
   pub few : length table.columns ≤ 32
   pub rows : All (IsRowOf table.columns) table.rows
   pub short : AreShort table.columns table.rows
+  pub index : IfSome relation.index (λ column. column < length relation.columns)
 
 -- a table for each relation, of which there are at most 16
 pub record MayStore (relations : List Relation) (db : List Table) : Type 0 where
@@ -38,10 +42,18 @@ pub record MayStore (relations : List Relation) (db : List Table) : Type 0 where
   pub count : length db ≡ length relations
   pub each : (i : ℕ) (relation : Relation) (table : Table) → slice_get relations i ≡ Some relation → slice_get db i ≡ Some table → IsTableOf relation table
 
+-- The index of a table that is cut into these pages, where there is to be one on this column: its keys have the type of the column,
+-- and its entries are those of the table's rows.
+abbrev pub IsIndexed : Option ℕ → Table → List (List (List ℕ)) → Option StoredIndex → Type 0
+IsIndexed None table blocks None = ⊤
+IsIndexed None table blocks (Some index) = ⊥
+IsIndexed (Some column) table blocks None = ⊥
+IsIndexed (Some column) table blocks (Some index) = (index.key_type ≡ type_at table.columns column) × IsIndexOf column table.rows blocks index.entries
+
 -- the items are the encodings of the table's rows, and there is an index exactly where the relation has one
 pub record IsStored (relation : Relation) (table : Table) (stored : StoredTable) : Type 0 where
   pub items : byte_lists stored.items ≡ encodings table.columns table.rows
-  pub indexed : stored.indexed ≡ is_some relation.index
+  pub index : IsIndexed relation.index table (table_blocks stored) stored.index
 
 -- the same of each table
 pub record AreStored (relations : List Relation) (db : List Table) (tables : List StoredTable) : Type 0 where
@@ -54,12 +66,14 @@ pub record IsMapOf (tables : List StoredTable) (drives : ℕ) (map_of : FileMap)
   pub files : map_of.files.items ≡ files_of tables
   pub drives_are : map_of.drives ≡ drives
 
--- and the number of each table's heap file
+-- and the number of each table's heap file, and the numbers of its index
 pub record IsLaid (tables : List StoredTable) (drives : ℕ) (laid : Laid) : Type 0 where
   pub of : IsMapOf tables drives laid.map
   pub count : length laid.heaps.items ≡ length tables
   pub heaps : (i heap : ℕ) → slice_get laid.heaps.items i ≡ Some heap → heap ≡ file_number tables i
   pub within : All (λ heap. heap < length (files_of tables)) laid.heaps.items
+  pub index_count : length laid.indexes.items ≡ length tables
+  pub indexes : (i : ℕ) (table : StoredTable) (index : Option KeyIndex) → slice_get tables i ≡ Some table → slice_get laid.indexes.items i ≡ Some index → index ≡ index_numbers tables i table
 
 module _ {D : Type 0} (g : Ghosts D) where
   -- drives as they were mounted

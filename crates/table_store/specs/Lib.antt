@@ -3,3 +3,4 @@ pub mod Readings
 pub mod Steps
 pub mod Images
 pub mod Databases
+pub mod Entries

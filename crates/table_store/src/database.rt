@@ -1,28 +1,56 @@
 //! Databases on drives.
-ghost use Rattle.std.specs.Prelude.{◌≡◌, ◌<◌, ◌≤◌, ◌^◌, ℕ, List, Some, IfOk, IfErr, All, length, slice_get};
-ghost use Rattle.heap_page.specs.Blocks.{byte_lists};
+ghost use Rattle.std.specs.Prelude.{◌≡◌, ◌<◌, ◌≤◌, ◌^◌, ℕ, List, Some, Option, IfOk, IfErr, IfSome, All, length, slice_get};
+ghost use Rattle.heap_page.specs.Blocks.{FitsAlone, blocks_of, byte_lists, item_weight};
 ghost use Rattle.heap_page.specs.Stores.{HaveRoom};
 ghost use Rattle.rows.specs.declared.plain.Column.{Column};
+ghost use Rattle.rows.specs.declared.plain.KeyIndex.{KeyIndex};
 ghost use Rattle.rows.specs.declared.value.Value.{Value};
 ghost use Rattle.rows.specs.RowBytes.{IsRowOf};
 ghost use Rattle.table_store.specs.declared.files.StoredTable.{StoredTable};
-ghost use Rattle.table_store.specs.Databases.{AllFresh, AreKept, AreStored, IsLaid, IsLaidOut, IsStored, IsTableOf, LayCause, LayoutCause, MayStore};
-ghost use Rattle.table_store.specs.Files.{IsStorable, encodings, file_number, files_of};
+ghost use Rattle.table_store.specs.Databases.{AllFresh, AreKept, AreStored, IsIndexed, IsLaid, IsLaidOut, IsStored, IsTableOf, LayCause, LayoutCause, MayStore};
+ghost use Rattle.table_store.specs.Files.{IsStorable, IsStorableIndex, encodings, file_number, files_of, index_numbers};
 ghost use Rattle.table_store.specs.Images.{HoldImage};
 ghost use Rattle.table_store.specs.Readings.{AllTell, TellRows};
 
-use crate::{StoredTable, file_map, heap_file_number, items_of, write_tables};
-use heap_page::{FileMap, StoreErr};
+use crate::entries::entries_of;
+use crate::files::index_numbers;
+use crate::{StoredIndex, StoredTable, file_map, heap_file_number, items_of, write_tables};
+use heap_page::{FileMap, ItemList, StoreErr};
 use rel_meaning::{Database, Table};
-use rows::{Catalog, Relation};
+use rows::{Catalog, KeyIndex, Relation};
 use std::alloc::Global;
 use xp_outside::{Drive, NoMemory};
 
-/// Where tables stand on drives: their files, and the number of each table's heap file.
+/// Where tables stand on drives: their files, the number of each table's heap file, and the numbers of each table's index
+/// where it has one.
 #[derive(Debug, Drop)]
 pub struct Laid {
     pub map: FileMap,
     pub heaps: Vec<u32>,
+    pub indexes: Vec<Option<KeyIndex>>,
+}
+
+// The index of a table whose rows have these bytes.
+fn stored_index(
+    alloc: Global,
+    relation: &Relation,
+    table: &Table,
+    items: &ItemList,
+) -> Result<Option<StoredIndex>, NoMemory>
+    requires table { IsTableOf relation.now table.now }
+    requires items { byte_lists items.now ≡ encodings table.now.columns table.now.rows }
+    requires storable { (length items.now ≤ 1000000) × All FitsAlone (byte_lists items.now) }
+    ensures index { IfOk result (IsIndexed relation.now.index table.now (blocks_of item_weight 8172 (byte_lists items.now))) }
+    ensures storable { IfOk result (λ index. IfSome index (IsStorableIndex (length (blocks_of item_weight 8172 (byte_lists items.now))))) }
+{
+    match relation.index {
+        Some(column) => {
+            let key_type = table.columns.get(column as usize).col_type;
+            let entries = entries_of(alloc, &table.rows, &table.columns, column, items)?;
+            Ok(Some(StoredIndex { key_type, entries }))
+        }
+        None => Ok(None),
+    }
 }
 
 // A table as it is stored.
@@ -31,10 +59,9 @@ fn stored_table(alloc: Global, relation: &Relation, table: &Table) -> Result<Sto
     ensures stored { IfOk result (IsStored relation.now table.now) }
     ensures storable { IfOk result IsStorable }
 {
-    Ok(StoredTable {
-        items: items_of(alloc, &table.rows, &table.columns)?,
-        indexed: relation.index.is_some(),
-    })
+    let items = items_of(alloc, &table.rows, &table.columns)?;
+    let index = stored_index(alloc, relation, table, &items)?;
+    Ok(StoredTable { items, index })
 }
 
 // The tables of a database as they are stored. The database itself is given up.
@@ -68,6 +95,21 @@ fn heap_files(alloc: Global, tables: &[StoredTable]) -> Result<Vec<u32>, NoMemor
     Ok(heaps)
 }
 
+// The numbers of each table's index.
+fn index_list(alloc: Global, tables: &[StoredTable]) -> Result<Vec<Option<KeyIndex>>, NoMemory>
+    requires few { length tables.now ≤ 16 }
+    requires tables { All IsStorable tables.now }
+    ensures count { IfOk result (λ indexes. length indexes.items ≡ length tables.now) }
+    ensures indexes { IfOk result (λ indexes. (i : ℕ) (table : StoredTable) (index : Option KeyIndex) → slice_get tables.now i ≡ Some table → slice_get indexes.items i ≡ Some index → index ≡ index_numbers tables.now i table) }
+{
+    let mut indexes = Vec::new(alloc);
+    for table in 0..tables.len() as u32 {
+        let file = heap_file_number(tables, table) + 1;
+        indexes.push(index_numbers(alloc, &tables[table as usize], file)?)?;
+    }
+    Ok(indexes)
+}
+
 // Lays tables on drives.
 fn lay<D: Drive>(alloc: Global, drives: &mut [D], tables: &[StoredTable]) -> Result<Laid, StoreErr>
     requires some { 0 < length drives.old }
@@ -83,12 +125,17 @@ fn lay<D: Drive>(alloc: Global, drives: &mut [D], tables: &[StoredTable]) -> Res
 {
     let map = file_map(alloc, tables, drives.len() as u32)?;
     let heaps = heap_files(alloc, tables)?;
+    let indexes = index_list(alloc, tables)?;
     write_tables(alloc, drives, &map, tables)?;
-    Ok(Laid { map, heaps })
+    Ok(Laid {
+        map,
+        heaps,
+        indexes,
+    })
 }
 
-/// Lays a database on drives: each relation's rows in the pages of its heap file, file after file, striped over the
-/// drives. There are 1 to 4,294,967,295 drives, at most 16 relations and a table of each, with at most 1,000,000 rows whose
+/// Lays a database on drives: each relation's rows in the pages of its heap file and, where it has an index, the entries
+/// of the index in the pages of the file behind it, file after file, striped over the drives. There are 1 to 4,294,967,295 drives, at most 16 relations and a table of each, with at most 1,000,000 rows whose
 /// encodings have at most 8,168 bytes. `DriveFull` comes exactly where some drive is smaller than the files need there, with
 /// the first such drive, before any write. `DriveFault` comes only where that drive's count rises. After an `Ok` each drive
 /// that was new and tells holds exactly its part of the files, and zeros elsewhere; drives that all tell, tell the rows of

@@ -2,20 +2,29 @@
 ghost use Rattle.std.specs.Prelude.{◌≡◌, ◌<◌, ◌≤◌, ◌++◌, IfOk, OnOk, length, All};
 ghost use Rattle.heap_page.specs.Blocks.{byte_lists};
 ghost use Rattle.heap_page.specs.Maps.{IsMap};
+ghost use Rattle.key_index.specs.Files.{index_pages};
 ghost use Rattle.rows.specs.RowBytes.{IsRowOf};
-ghost use Rattle.table_store.specs.Files.{IsStorable, encodings, file_number, files_of, files_of_table, table_blocks};
+ghost use Rattle.table_store.specs.Files.{IsStorable, IsStorableIndex, encodings, file_number, files_of, files_of_table, numbers_in, table_blocks};
 
 use heap_page::{FileKind, FileMap, ItemList, PageFile, pages_of};
+use key_index::{index_laws, plan_index};
 use lists::Sequence;
-use rows::{ColumnList, Rows, encode_row};
+use rows::{ColType, ColumnList, KeyEntryList, KeyIndex, Rows, encode_row};
 use std::alloc::Global;
 use xp_outside::NoMemory;
 
-/// A table to be laid on drives: the bytes of its rows, and whether it has an index.
+/// An index to be laid on drives: the type of its keys, and its entries in order.
+#[derive(Debug, Drop)]
+pub struct StoredIndex {
+    pub key_type: ColType,
+    pub entries: KeyEntryList,
+}
+
+/// A table to be laid on drives: the bytes of its rows, and its index where it has one.
 #[derive(Debug, Drop)]
 pub struct StoredTable {
     pub items: ItemList,
-    pub indexed: bool,
+    pub index: Option<StoredIndex>,
 }
 
 /// The bytes of each row, in order. The rows are of the columns, at most 32.
@@ -32,34 +41,65 @@ pub fn items_of(alloc: Global, rows: &Rows, columns: &ColumnList) -> Result<Item
 }
 
 // How many pages a table's heap file has.
-fn heap_pages(table: &StoredTable) -> u32
+pub(crate) fn heap_pages(table: &StoredTable) -> u32
     requires { IsStorable table.now }
     ensures { result ≡ length (table_blocks table.now) }
 {
     pages_of(&table.items)
 }
 
+// How many pages an index file has.
+fn index_file_pages(alloc: Global, index: &StoredIndex, heap_pages: u32) -> Result<u32, NoMemory>
+    requires { IsStorableIndex heap_pages index.now }
+    ensures { IfOk result (λ pages. pages ≡ length (index_pages 0 index.now.entries)) }
+{
+    let numbers = plan_index(alloc, &index.entries, index.key_type, 0, heap_pages)?;
+    Ok(numbers.pages)
+}
+
+// The numbers of a table's index, where it has one. Its file has this number.
+pub(crate) fn index_numbers(
+    alloc: Global,
+    table: &StoredTable,
+    file: u32,
+) -> Result<Option<KeyIndex>, NoMemory>
+    requires { IsStorable table.now }
+    ensures { IfOk result (λ numbers. numbers ≡ numbers_in file (length (table_blocks table.now)) table.now.index) }
+{
+    match &table.index {
+        Some(index) => {
+            let heap_pages = heap_pages(table);
+            let numbers = plan_index(alloc, &index.entries, index.key_type, file, heap_pages)?;
+            Ok(Some(numbers))
+        }
+        None => Ok(None),
+    }
+}
+
 // Adds the files of a table.
-fn add_files(files: &mut Vec<PageFile>, table: &StoredTable) -> Result<(), NoMemory>
+fn add_files(alloc: Global, files: &mut Vec<PageFile>, table: &StoredTable) -> Result<(), NoMemory>
     requires { IsStorable table.now }
     ensures { OnOk result (files.new.items ≡ files.old.items ++ files_of_table table.now) }
 {
+    let pages = heap_pages(table);
     files.push(PageFile {
         kind: FileKind::Heap,
-        pages: heap_pages(table),
+        pages,
     })?;
-    if table.indexed {
+    if let Some(index) = &table.index {
+        let pages = index_file_pages(alloc, index, pages)?;
         files.push(PageFile {
             kind: FileKind::Index,
-            pages: 0,
+            pages,
         })?;
     }
     Ok(())
 }
 
 /// The files of tables in their order, over so many drives: for each table a heap file with as many pages as its items
-/// need, and behind it, where the table has an index, an index file without pages. There are at most 16 tables, each of at
-/// most 1,000,000 items that fit an empty page.
+/// need, and behind it, where the table has an index, an index file with as many pages as its entries need. There are at
+/// most 16 tables, each of at most 1,000,000 items that fit an empty page; an index has at most 1,000,000 entries, in
+/// order, with keys of its type, pages of the heap file and slots below 65,536.
 pub fn file_map(alloc: Global, tables: &[StoredTable], drives: u32) -> Result<FileMap, NoMemory>
     requires drives { 0 < drives }
     requires few { length tables.now ≤ 16 }
@@ -68,9 +108,10 @@ pub fn file_map(alloc: Global, tables: &[StoredTable], drives: u32) -> Result<Fi
     ensures files { IfOk result (λ map. map.files.items ≡ files_of tables.now) }
     ensures map { IfOk result (λ map. IsMap map) }
 {
+    index_laws();
     let mut files = Vec::new(alloc);
     for table in tables {
-        add_files(&mut files, table)?;
+        add_files(alloc, &mut files, table)?;
     }
     Ok(FileMap { files, drives })
 }
@@ -79,7 +120,10 @@ pub fn file_map(alloc: Global, tables: &[StoredTable], drives: u32) -> Result<Fi
 pub(crate) fn file_count(table: &StoredTable) -> u32
     ensures { result ≡ length (files_of_table table.now) }
 {
-    if table.indexed { 2 } else { 1 }
+    match table.index {
+        Some(_) => 2,
+        None => 1,
+    }
 }
 
 /// The number of a table's heap file in the files of tables, at most 16. The table is counted from 0.

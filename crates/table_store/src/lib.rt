@@ -3,6 +3,7 @@
 
 mod database;
 mod database_reading;
+mod entries;
 mod files;
 mod page_rows;
 mod reading;
@@ -12,6 +13,6 @@ mod writing;
 
 pub use database::{Laid, lay_database};
 pub use database_reading::read_database;
-pub use files::{StoredTable, file_map, heap_file_number, items_of};
+pub use files::{StoredIndex, StoredTable, file_map, heap_file_number, items_of};
 pub use reading::read_table;
 pub use writing::write_tables;

@@ -1,11 +1,15 @@
 ghost use Rattle.std.specs.Prelude.{◌≡◌, ◌<◌, ◌≤◌, IfOk, All, length};
-ghost use Rattle.heap_page.specs.Blocks.{FitsAlone};
+ghost use Rattle.heap_page.specs.Blocks.{FitsAlone, byte_lists};
 ghost use Rattle.table_store.specs.Files.{IsStorable};
 
-use crate::{StoredTable, file_map, heap_file_number, items_of, read_table, write_tables};
+use crate::files::heap_pages;
+use crate::{
+    StoredIndex, StoredTable, file_map, heap_file_number, items_of, read_table, write_tables,
+};
 use heap_page::{BadPage, FetchErr, ItemList, StoreErr};
+use key_index::are_entries;
 use lists::Sequence;
-use rows::{ColType, Column, ColumnList, Text};
+use rows::{ColType, Column, ColumnList, KeyEntry, Text, Value};
 use std::alloc::Global;
 use std::test::Fail;
 use xp_outside::{Drive, MemDrive, NoMemory, Rack, WildRack};
@@ -38,6 +42,40 @@ fn item(alloc: Global, bytes: &[u8]) -> Result<Vec<u8>, NoMemory>
     }
 }
 
+fn plain_table(items: ItemList) -> StoredTable
+    requires few { length items ≤ 1000000 }
+    requires fit { All FitsAlone (byte_lists items) }
+    ensures { IsStorable result }
+{
+    StoredTable { items, index: None }
+}
+
+// A table of three rows with an index on their numbers, 1,200, 900 and 1,500.
+fn indexed_table(alloc: Global, items: ItemList) -> Result<StoredTable, NoMemory>
+    requires few { length items ≤ 1000000 }
+    requires fit { All FitsAlone (byte_lists items) }
+    ensures { IfOk result IsStorable }
+{
+    let mut entries = Vec::with_capacity(alloc, 3)?;
+    for (number, slot) in [(900i64, 1u32), (1200, 0), (1500, 2)] {
+        entries.push(KeyEntry {
+            key: Value::Number(number),
+            page: 0,
+            slot,
+        })?;
+    }
+    let table = plain_table(items);
+    let entries = Sequence::from_vec(entries);
+    let key_type = ColType::Int4;
+    if !are_entries(&entries, key_type, heap_pages(&table)) {
+        return Ok(table);
+    }
+    Ok(StoredTable {
+        items: table.items,
+        index: Some(StoredIndex { key_type, entries }),
+    })
+}
+
 // Three tables: the first has three rows and an index, the second no row, the third one row.
 fn tables(alloc: Global) -> Result<Vec<StoredTable>, NoMemory>
     ensures few { IfOk result (λ tables. length tables.items ≤ 16) }
@@ -47,18 +85,9 @@ fn tables(alloc: Global) -> Result<Vec<StoredTable>, NoMemory>
     let bob = item(alloc, b"\x00\x03Bob\x00\x03toy\x00\x00\x03\x84")?;
     let cid = item(alloc, b"\x00\x03Cid\x00\x04shoe\x00\x00\x05\xdc")?;
     let dan = item(alloc, b"\x00\x03Dan\x00\x00\xff\xff\xff\xff")?;
-    let first = StoredTable {
-        items: Sequence::from_vec(vec![in alloc; ann, bob, cid]?),
-        indexed: true,
-    };
-    let second = StoredTable {
-        items: Sequence::new(alloc),
-        indexed: false,
-    };
-    let third = StoredTable {
-        items: Sequence::from_vec(vec![in alloc; dan]?),
-        indexed: false,
-    };
+    let first = indexed_table(alloc, Sequence::from_vec(vec![in alloc; ann, bob, cid]?))?;
+    let second = plain_table(Sequence::new(alloc));
+    let third = plain_table(Sequence::from_vec(vec![in alloc; dan]?));
     Ok(vec![in alloc; first, second, third]?)
 }
 
@@ -104,19 +133,36 @@ fn tables_are_written_and_read_back(rt: HostRuntime) -> Result<(), Fail> {
     for (table, file) in [(0u32, 0u32), (1, 2), (2, 3)] {
         assert!(rt; (table as usize) < tables.len());
         assert_eq!(rt; heap_file_number(&tables, table), file);
-        let mut drives = two_drives(alloc, 2)?;
+        let mut drives = two_drives(alloc, 3)?;
         let read = write_and_read(alloc, &mut drives, 2, &tables, file);
         let items = &tables[table as usize].items;
         assert!(rt; matches!(&read, Ok(Ok(found)) if found.items() == items.items()));
     }
-    let mut small = two_drives(alloc, 1)?;
+    let mut small = two_drives(alloc, 2)?;
     let full = StoreErr::DriveFull {
         drive: 0,
-        needs: 2,
-        capacity: 1,
+        needs: 3,
+        capacity: 2,
     };
     let read = write_and_read(alloc, &mut small, 2, &tables, 0);
     assert!(rt; matches!(read, Err(found) if found == full));
+    Ok(())
+}
+
+#[test]
+fn the_page_of_an_index_stands_behind_its_table(rt: HostRuntime) -> Result<(), Fail> {
+    let alloc = rt.alloc();
+    let tables = tables(alloc)?;
+    let mut drives = two_drives(alloc, 3)?;
+    assert!(rt; write_and_read(alloc, &mut drives, 2, &tables, 0).is_ok());
+    assert!(rt; drives.len() == 2 && drives[0].capacity() == 3);
+    let page = drives[0].page(1);
+    // three entries of file 1, each with its key, heap page and slot
+    let head = b"\x00\x01\x00\x03\x00\x00\x00\x01\x00\x00\x00\x00\x00\x00\x00\x00";
+    let entries =
+        b"\x00\x00\x03\x84\x00\x00\x00\x00\x00\x01\x00\x00\x04\xb0\x00\x00\x00\x00\x00\x00\x00\x00\x05\xdc\x00\x00\x00\x00\x00\x02\x00\x00";
+    assert!(rt; page[4..20] == head[..]);
+    assert!(rt; page[20..52] == entries[..]);
     Ok(())
 }
 
@@ -125,7 +171,7 @@ fn read_changed(alloc: Global, byte: u32) -> Result<Result<ItemList, FetchErr>, 
     requires { byte < 8192 }
 {
     let tables = tables(alloc)?;
-    match WildRack::new(2, byte, 1).mount(alloc, 1) {
+    match WildRack::new(3, byte, 1).mount(alloc, 1) {
         Ok(mut drives) => write_and_read(alloc, &mut drives, 1, &tables, 0),
         Err(_) => Err(StoreErr::NoMemory),
     }

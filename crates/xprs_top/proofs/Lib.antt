@@ -3,6 +3,7 @@ pub mod Tables
 pub mod Told
 pub mod Joined
 pub mod Short
+pub mod Indexes
 pub mod Stored
 pub mod Devices
 pub mod Caused

@@ -7,6 +7,7 @@ ghost use Rattle.table_store.specs.Databases.{AreShort, IsTableOf, MayStore};
 ghost use Rattle.rows.specs.RowBytes.{IsRowOf};
 ghost use Rattle.xprs_top.specs.Inputs.{Told, checked_of, read_of};
 ghost use Rattle.xprs_top.specs.Readings.{IsCatalog, IsChecked, IsScript, Just, fetch_of, table_of, tables_of};
+ghost use Rattle.xprs_top.specs.Tasks.{HasIndexColumn};
 ghost use Rattle.xprs_top.specs.Words.{request_of};
 
 use crate::Status;
@@ -51,6 +52,7 @@ fn catalog_input<S: Shelf>(alloc: Global, shelf: &mut S, name: &[u8]) -> Result<
     ensures count { S.faults shelf.old ≤ S.faults shelf.new }
     ensures told { Told (S.files shelf.old) (S.faults shelf.old) (S.faults shelf.new) (λ c. c) result (λ files. IsCatalog files name.now) }
     ensures limits { IfOk result HasLimits }
+    ensures indexes { IfOk result (All HasIndexColumn) }
 {
     let bytes = fetched(alloc, shelf, name)?;
     catalog_in(alloc, name, bytes.as_slice())
@@ -81,6 +83,7 @@ pub(crate) fn read_checked<S: Shelf>(
     ensures count { S.faults shelf.old ≤ S.faults shelf.new }
     ensures told { Told (S.files shelf.old) (S.faults shelf.old) (S.faults shelf.new) read_of result (λ files. IsChecked files (request_of operands.now)) }
     ensures limits { IfOk result (λ checked. HasLimits checked.catalog) }
+    ensures indexes { IfOk result (λ checked. All HasIndexColumn checked.catalog) }
     ensures answerable { IfOk result (λ checked. Answerable checked.catalog (program_of checked.read.script).sentences checked.read.queries) }
 {
     let catalog = catalog_input(alloc, shelf, operands.catalog)?;
@@ -121,7 +124,8 @@ fn copied(alloc: Global, columns: &[Column]) -> Result<Vec<Column>, AllocError>
 
 // The table of a relation.
 fn table<S: Shelf>(alloc: Global, shelf: &mut S, relation: &Relation) -> Result<Table, Status>
-    requires { length relation.now.columns ≤ 32 }
+    requires few { length relation.now.columns ≤ 32 }
+    requires index { HasIndexColumn relation.now }
     ensures files { S.files shelf.new ≡ S.files shelf.old }
     ensures count { S.faults shelf.old ≤ S.faults shelf.new }
     ensures told { Told (S.files shelf.old) (S.faults shelf.old) (S.faults shelf.new) (λ t. t.rows) result (λ files. Just (table_of files relation.now)) }
@@ -140,7 +144,8 @@ pub(crate) fn read_tables<S: Shelf>(
     shelf: &mut S,
     catalog: &Catalog,
 ) -> Result<Database, Status>
-    requires { HasLimits catalog.now }
+    requires limits { HasLimits catalog.now }
+    requires indexes { All HasIndexColumn catalog.now }
     ensures files { S.files shelf.new ≡ S.files shelf.old }
     ensures count { S.faults shelf.old ≤ S.faults shelf.new }
     ensures told { Told (S.files shelf.old) (S.faults shelf.old) (S.faults shelf.new) (λ db. db) result (λ files. Just (tables_of files catalog.now)) }

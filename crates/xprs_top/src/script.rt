@@ -8,6 +8,7 @@ ghost use Rattle.name_check.specs.Resolved.{Answerable};
 ghost use Rattle.name_check.specs.Sentences.{HasNumbers, heading_of, queries_of};
 ghost use Rattle.rel_meaning.specs.Expression.{question_of};
 ghost use Rattle.xprs_top.specs.Inputs.{Finds, IsParsed, checked_of};
+ghost use Rattle.xprs_top.specs.Tasks.{HasIndexColumn};
 ghost use Rattle.xprs_top.specs.Readings.{InFile, IsProgram, Just, Then, check_of, checked_in};
 
 use crate::Status;
@@ -31,6 +32,7 @@ pub(crate) fn catalog_in(alloc: Global, name: &[u8], bytes: &[u8]) -> Result<Cat
     requires { length bytes.now ≤ 67108864 }
     ensures value { Finds (λ c. c) result (InFile name.now (catalog.IsReading bytes.now)) }
     ensures limits { IfOk result HasLimits }
+    ensures indexes { IfOk result (All HasIndexColumn) }
 {
     match read_catalog(alloc, bytes) {
         Ok(catalog) => Ok(catalog),

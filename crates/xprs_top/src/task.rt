@@ -1,5 +1,5 @@
 //! What a run is to do.
-ghost use Rattle.std.specs.Prelude.{◌≡◌, ◌≤◌, IfOk, Ok};
+ghost use Rattle.std.specs.Prelude.{◌≡◌, ◌≤◌, All, IfOk, Ok};
 ghost use Rattle.catalog_load.specs.Limits.{HasLimits};
 ghost use Rattle.name_check.specs.Resolved.{Answerable};
 ghost use Rattle.postquel.specs.Print.{script_text};
@@ -9,7 +9,7 @@ ghost use Rattle.xprs_top.specs.declared.words.Verb.TheVariants as verb;
 ghost use Rattle.xprs_top.specs.Inputs.{Finds, Told, job_of, read_of};
 ghost use Rattle.xprs_top.specs.Readings.{IsJob, Just, answering, is_unbuilt, job_by, write};
 ghost use Rattle.xprs_top.specs.Runs.{IsCheck};
-ghost use Rattle.xprs_top.specs.Tasks.{IsPrint, IsReady};
+ghost use Rattle.xprs_top.specs.Tasks.{HasIndexColumn, IsPrint, IsReady};
 ghost use Rattle.xprs_top.specs.Words.{request_of};
 
 use crate::Status;
@@ -59,6 +59,7 @@ fn answer_task(checked: Checked, db: Database) -> Result<Task, Status>
 // To answer a checked script, for which the tables are read.
 fn alone_task<S: Shelf>(alloc: Global, shelf: &mut S, checked: Checked) -> Result<Task, Status>
     requires limits { HasLimits checked.catalog }
+    requires indexes { All HasIndexColumn checked.catalog }
     requires answerable { Answerable checked.catalog (program_of checked.read.script).sentences checked.read.queries }
     ensures files { S.files shelf.new ≡ S.files shelf.old }
     ensures count { S.faults shelf.old ≤ S.faults shelf.new }

@@ -1,4 +1,4 @@
-use Rattle.table_store.proofs.Laying.{kept_none, laid_out, layout_err}
+use Rattle.table_store.proofs.Laying.{laid_out, layout_err}
 use Rattle.table_store.proofs.database.lay_database.Goals as goal
 
 pub returns-clause-laid : goal.returns-clause-laid

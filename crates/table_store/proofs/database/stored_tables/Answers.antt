@@ -1,6 +1,3 @@
-use Rattle.std.proofs.Common.{◌≡◌, ◌∙◌, ap, Some, Option}
-use Rattle.std.specs.Prelude.{slice_get}
-use Rattle.rows.specs.declared.plain.Relation.{Relation}
 use Rattle.table_store.proofs.Filed.{some_at}
 use Rattle.table_store.proofs.Laying.{one_encoded}
 use Rattle.table_store.proofs.database.stored_tables.Goals as goal

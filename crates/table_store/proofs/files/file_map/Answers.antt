@@ -6,5 +6,5 @@ use Rattle.table_store.proofs.files.file_map.Goals as goal
 
 pub returns-clause-map : goal.returns-clause-map
 returns-clause-map c =
-    is_map c.args.tables.now _ c.requires.drives c.requires.few c.requires.tables
+    is_map c.index_laws.ensures.are c.args.tables.now _ c.requires.drives c.requires.few c.requires.tables
     (c.loop-table.invariant ∙ ap files_of (take_all c.loop-table.table-index c.args.tables.now c.loop-table-test.false))

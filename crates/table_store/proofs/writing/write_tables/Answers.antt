@@ -1,27 +1,41 @@
 use Rattle.std.proofs.Common.{◌+◌, arith}
 use Rattle.std.proofs.lemmas.Result.{err_from_is_err_and}
+use Rattle.table_store.specs.Files.{IsStorable}
 use Rattle.table_store.specs.Images.{IsTablePlace}
 use Rattle.table_store.proofs.Again.{tell_rows}
-use Rattle.table_store.proofs.Filed.{some_at, pages_there, next_number, number_small}
+use Rattle.table_store.proofs.Filed.{all_at, index_pages_there, some_at, pages_there, next_number, number_small}
 use Rattle.table_store.proofs.Stored.{cause_before, wrote_more, stored, hold_at_end, room_after, room_at_end}
 use Rattle.table_store.proofs.writing.write_tables.Goals as goal
 
-pub write_relation-requires-clause-pages : goal.write_relation-requires-clause-pages
-write_relation-requires-clause-pages g c = λ blocks cut.
+pub write_table-requires-clause-table : goal.write_table-requires-clause-table
+write_table-requires-clause-table g c =
+    let at = some_at c.args.tables.now c.loop-table.table-index c.table-item.result c.loop-table-test.true c.table-item.is in
+    all_at IsStorable c.args.tables.now c.loop-table.table-index c.table-item.result c.requires.tables at
+
+pub write_table-requires-clause-small : goal.write_table-requires-clause-small
+write_table-requires-clause-small g c = omega (arith, c.loop-table.invariant.file_is, number_small c.args.tables.now c.loop-table.table-index, c.requires.few)
+
+pub write_table-requires-clause-heap : goal.write_table-requires-clause-heap
+write_table-requires-clause-heap g c = λ blocks cut.
     let at = some_at c.args.tables.now c.loop-table.table-index c.table-item.result c.loop-table-test.true c.table-item.is in
     pages_there c.args.tables.now c.args.map.now.files.items c.loop-table.table-index c.loop-table.file c.table-item.result blocks c.requires.files c.loop-table.invariant.file_is c.requires.tables at cut
 
-pub returns-in_err-write_relation-clause-written : goal.returns-in_err-write_relation-clause-written
-returns-in_err-write_relation-clause-written g c =
-    wrote_more g.D.Drive c.args.map.now c.args.tables.now c.requires.files c.requires.tables c.requires.map c.place_laws.ensures.file c.args.drives.now c.loop-table.drives c.write_relation.new.drives
-    c.loop-table.table-index c.loop-table.file c.loop-table-test.true c.loop-table.invariant c.write_relation.ensures.written
+pub write_table-requires-clause-index : goal.write_table-requires-clause-index
+write_table-requires-clause-index g c = λ index has.
+    let at = some_at c.args.tables.now c.loop-table.table-index c.table-item.result c.loop-table-test.true c.table-item.is in
+    index_pages_there c.args.tables.now c.args.map.now.files.items c.loop-table.table-index (c.loop-table.file + 1) c.table-item.result index c.requires.files (omega (arith, c.loop-table.invariant.file_is)) at has
 
-pub returns-in_err-write_relation-clause-err : goal.returns-in_err-write_relation-clause-err
-returns-in_err-write_relation-clause-err g c =
+pub returns-in_err-write_table-clause-written : goal.returns-in_err-write_table-clause-written
+returns-in_err-write_table-clause-written g c =
+    wrote_more g.D.Drive c.args.map.now c.args.tables.now c.requires.files c.requires.tables c.requires.map c.place_laws.ensures.file c.args.drives.now c.loop-table.drives c.write_table.new.drives
+    c.loop-table.table-index c.loop-table.file c.table-item.result c.loop-table.invariant c.write_table.ensures.written
+
+pub returns-in_err-write_table-clause-err : goal.returns-in_err-write_table-clause-err
+returns-in_err-write_table-clause-err g c =
     let p = err_from_is_err_and c.from_residual.result c.from_residual.ensures.1 in
     rw (p.1, p.2)
-    (cause_before g.D.Drive c.args.map.now c.args.tables.now c.requires.files c.requires.tables c.requires.map c.place_laws.ensures.file c.args.drives.now c.loop-table.drives c.write_relation.new.drives
-    c.loop-table.table-index c.loop-table.file _ c.loop-table.invariant c.in_err-write_relation.ensures.err)
+    (cause_before g.D.Drive c.args.map.now c.args.tables.now c.requires.files c.requires.tables c.requires.map c.place_laws.ensures.file c.args.drives.now c.loop-table.drives c.write_table.new.drives
+    c.loop-table.table-index c.loop-table.file _ c.loop-table.invariant c.in_err-write_table.ensures.err)
 
 pub overflow_add-file : goal.overflow_add-file
 overflow_add-file g c =
@@ -31,8 +45,8 @@ overflow_add-file g c =
 pub loop-table-preserved : goal.loop-table-preserved
 loop-table-preserved g c =
     let at = some_at c.args.tables.now c.loop-table.table-index c.table-item.result c.loop-table-test.true c.table-item.is in
-    stored g.D.Drive c.args.map.now c.args.tables.now c.requires.files c.requires.tables c.requires.map c.place_laws.ensures.file c.args.drives.now c.loop-table.drives c.write_relation.new.drives
-    c.loop-table.table-index c.loop-table.file c.file_count-file.result c.table-item.result c.loop-table.invariant at c.file_count-file.ensures c.write_relation.ensures.written c.in_ok-write_relation.ensures.room c.in_ok-write_relation.ensures.ok
+    stored g.D.Drive c.args.map.now c.args.tables.now c.requires.files c.requires.tables c.requires.map c.place_laws.ensures.file c.args.drives.now c.loop-table.drives c.write_table.new.drives
+    c.loop-table.table-index c.loop-table.file c.file_count-file.result c.table-item.result c.loop-table.invariant at c.file_count-file.ensures c.write_table.ensures.written c.in_ok-write_table.ensures.room c.in_ok-write_table.ensures.ok
 
 pub returns-clause-ok : goal.returns-clause-ok
 returns-clause-ok g c =

@@ -21,6 +21,6 @@ loop-relation-preserved g c = record {
 
 pub returns-clause-stored : goal.returns-clause-stored
 returns-clause-stored g c =
-    let here = all_loaded c.items-relation-items.result.now c.loop-relation.relation-index c.loop-relation.tables.items (rw c.items-relation-items.ensures c.requires) c.loop-relation.invariant.loaded
+    let here = all_loaded c.items-relation-items.result.now c.loop-relation.relation-index c.loop-relation.tables.items (rw c.items-relation-items.ensures c.requires.limits) c.loop-relation.invariant.loaded
     (omega (arith, c.loop-relation.auto.relation-index-end, c.loop-relation-test.false)) in
     rw (c.from_vec.ensures, ← c.items-relation-items.ensures) here
