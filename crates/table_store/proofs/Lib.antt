@@ -9,3 +9,4 @@ mod Stored
 pub mod Laying
 pub mod DatabaseRead
 pub mod Placed
+mod EntryExamples
