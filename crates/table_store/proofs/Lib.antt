@@ -9,3 +9,4 @@ pub mod Laying
 pub mod DatabaseRead
 pub mod Placed
 mod EntryExamples
+mod Fitting
