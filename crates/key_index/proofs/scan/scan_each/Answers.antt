@@ -3,8 +3,8 @@ use Rattle.key_index.specs.Aims.{chosen, first_of, passes, seen_item}
 use Rattle.key_index.specs.Entries.{Item}
 use Rattle.key_index.specs.Readings.{item_front, items_in}
 use Rattle.key_index.proofs.Scanning.{Reading, begun, more, missing, ended, no_level, no_items, cut_short, first_missing, not_zeros, all_zeros, heads, chosen_one}
-use Rattle.key_index.proofs.scan.scan_page.Goals as goal
-use Rattle.key_index.proofs.scan.scan_page.Goals.{then-is_counted, else-is_counted}
+use Rattle.key_index.proofs.scan.scan_each.Goals as goal
+use Rattle.key_index.proofs.scan.scan_each.Goals.{then-is_counted, else-is_counted}
 
 pub returns-then-from-level : goal.returns-then-from-level
 returns-then-from-level c = no_level c.args.key_type c.args.level c.args.start c.args.bytes.now (λ e. c.if-from-level.true (c.from.ensures ∙ (c.read_short.ensures ∙ e)))
