@@ -1,4 +1,5 @@
 mod Scanning
+mod Placed
 mod Looks
 mod Reached
 mod Levels

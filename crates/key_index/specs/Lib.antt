@@ -3,6 +3,7 @@ pub mod Bytes
 pub mod Levels
 pub mod Files
 pub mod Readings
+pub mod Fixed
 pub mod Aims
 pub mod Searches
 pub mod Intervals

@@ -5,6 +5,7 @@ mod aim;
 mod descent;
 mod entry_order;
 mod field;
+mod fixed;
 mod index_page;
 mod key;
 mod laws;

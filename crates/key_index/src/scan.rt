@@ -1,32 +1,17 @@
 //! The search in one page.
-ghost use Rattle.std.specs.Prelude.{◌≡◌, ◌==◌, ◌+◌, ◌≤◌, ◌<◌, ◌^◌, length, drop, MatchResult, Some};
-ghost use Rattle.std.specs.List.{list_all};
+ghost use Rattle.std.specs.Prelude.{◌≡◌, ◌<◌, ◌^◌, length, MatchResult, Some};
 ghost use Rattle.key_index.specs.Aims.{Scans};
 ghost use Rattle.key_index.specs.Readings.{page_fault};
 
 use crate::aim::Aim;
-use crate::field::read_short;
+use crate::field::{are_zeros, behind_head, read_short};
+use crate::fixed::scan_fixed;
 use crate::page_entry::Step;
 use crate::reading::{is_counted, read_entry};
 use rows::ColType;
 
-fn are_zeros(bytes: &[u8]) -> bool
-    ensures { result ≡ list_all (λ b. b == 0) bytes.now }
-{
-    bytes.iter().all(|byte| *byte == 0)
-}
-
-// The bytes behind the head.
-fn behind_head(bytes: &[u8]) -> &[u8]
-    requires { length bytes.now ≡ 8192 }
-    ensures { result.now ≡ drop 20 bytes.now }
-{
-    bytes.split_at(20).1
-}
-
-// Counts the entries of a page, or tells the first rule that it breaks behind its head: 6 the level is the one expected,
-// 7 there is an entry, and all are there in whole, each key of the key's type, 8 the rest is zero.
-pub(crate) fn scan_page<'a>(
+// Counts the entries of a page by looking at each of them.
+fn scan_each<'a>(
     bytes: &'a [u8],
     key_type: ColType,
     level: u32,
@@ -64,4 +49,24 @@ pub(crate) fn scan_page<'a>(
         return Err(8);
     }
     Ok(Step { count, entry })
+}
+
+// Counts the entries of a page, or tells the first rule that it breaks behind its head: 6 the level is the one expected,
+// 7 there is an entry, and all are there in whole, each key of the key's type, 8 the rest is zero. Entries of one length
+// are found by their place, where any bytes of a key are one of its type.
+pub(crate) fn scan_page<'a>(
+    bytes: &'a [u8],
+    key_type: ColType,
+    level: u32,
+    start: u64,
+    aim: Aim<'_>,
+) -> Result<Step<'a>, u32>
+    requires whole { length bytes.now ≡ 8192 }
+    requires start { start < 2 ^ 32 }
+    ensures { MatchResult result (λ step. Scans key_type level start aim.entry bytes.now step) (λ rule. page_fault key_type level start bytes.now ≡ Some rule) }
+{
+    match key_type {
+        ColType::Int4 => scan_fixed(bytes, level, start, aim),
+        ColType::Text | ColType::Bool => scan_each(bytes, key_type, level, start, aim),
+    }
 }

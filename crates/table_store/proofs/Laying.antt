@@ -230,12 +230,13 @@ module _ {D : Type 0} (g : Ghosts D) where
   Tells tables olds news r = (number : ℕ) (table : StoredTable) (columns : List Column) (rows : List (List Value)) → slice_get tables number ≡ Some table → byte_lists table.items ≡ encodings columns rows → length columns ≤ 32 → All (IsRowOf columns) rows →
       AllTell g olds → IfOk r (λ laid. TellRows g laid.map (file_number tables number) columns rows news)
 
-  pub laid_out : (relations : List Relation) (db : List Table) (tables : List StoredTable) (olds news : List D) (r : Result Laid StoreErr) → MayStore relations db → AreStored relations db tables → IfOk r (IsLaid tables (length olds)) →
+  pub laid_out : (relations : List Relation) (db : List Table) (tables : List StoredTable) (olds news : List D) (r : Result Laid StoreErr) → MayStore relations db → AreStored relations db tables → All IsStorable tables → IfOk r (IsLaid tables (length olds)) →
       IfOk r (λ laid. HaveRoom g laid.map news) → (AllFresh g olds → IfOk r (λ laid. HoldImage g laid.map tables news)) → Tells tables olds news r → IfOk r (IsLaidOut g relations db olds news)
-  laid_out relations db tables olds news (Err e) may are laid room image tells = tt
-  laid_out relations db tables olds news (Ok l) may are laid room image tells = record {
+  laid_out relations db tables olds news (Err e) may are fit laid room image tells = tt
+  laid_out relations db tables olds news (Ok l) may are fit laid room image tells = record {
     tables = tables;
     stored = are;
+    storable = fit;
     are = laid;
     room = room;
     image = image;

@@ -9,3 +9,5 @@ mod Stored
 pub mod Laying
 pub mod DatabaseRead
 pub mod Placed
+mod EntryExamples
+mod Fitting

@@ -20,7 +20,7 @@ use Rattle.table_store.specs.declared.files.StoredIndex.{StoredIndex}
 use Rattle.table_store.specs.declared.files.StoredTable.{StoredTable}
 use Rattle.table_store.specs.declared.database.Laid.{Laid}
 use Rattle.table_store.specs.Entries.{IsIndexOf, type_at}
-use Rattle.table_store.specs.Files.{encodings, file_number, files_of, index_numbers, table_blocks}
+use Rattle.table_store.specs.Files.{IsStorable, encodings, file_number, files_of, index_numbers, table_blocks}
 use Rattle.table_store.specs.Images.{HoldImage}
 use Rattle.table_store.specs.Readings.{AllTell, TellRows}
 
@@ -106,6 +106,7 @@ module _ {D : Type 0} (g : Ghosts D) where
   pub record IsLaidOut (relations : List Relation) (db : List Table) (olds news : List D) (laid : Laid) : Type 0 where
     pub tables : List StoredTable
     pub stored : AreStored relations db tables
+    pub storable : All IsStorable tables
     pub are : IsLaid tables (length olds) laid
     pub room : HaveRoom g laid.map news
     pub image : AllFresh olds → HoldImage g laid.map tables news

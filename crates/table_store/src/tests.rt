@@ -1,7 +1,9 @@
-ghost use Rattle.std.specs.Prelude.{◌≡◌, ◌<◌, ◌≤◌, IfOk, All, length};
+ghost use Rattle.std.specs.Prelude.{◌≡◌, ◌<◌, ◌≤◌, IfOk, All, length, true};
 ghost use Rattle.heap_page.specs.Blocks.{FitsAlone, byte_lists};
+ghost use Rattle.rows.specs.RowBytes.{IsRowOf};
 ghost use Rattle.table_store.specs.Files.{IsStorable};
 
+use crate::entries::entries_of;
 use crate::files::heap_pages;
 use crate::{
     StoredIndex, StoredTable, file_map, heap_file_number, items_of, read_table, write_tables,
@@ -9,7 +11,7 @@ use crate::{
 use heap_page::{BadPage, FetchErr, ItemList, StoreErr};
 use key_index::are_entries;
 use lists::Sequence;
-use rows::{ColType, Column, ColumnList, KeyEntry, Text, Value};
+use rows::{ColType, Column, ColumnList, KeyEntry, Rows, Text, Value, decode_row};
 use std::alloc::Global;
 use std::test::Fail;
 use xp_outside::{Drive, MemDrive, NoMemory, Rack, WildRack};
@@ -191,4 +193,81 @@ fn a_changed_bit_breaks_rule_9_or_changes_a_value(rt: HostRuntime) {
     assert!(rt;
         matches!(&changed, Ok(Ok(items)) if items.len() == 3 && items.get(0).as_slice() == raised.as_slice())
     );
+}
+
+// A number that may be null, and a text.
+fn wide_columns(alloc: Global) -> Result<ColumnList, NoMemory>
+    ensures { IfOk result (λ columns. length columns ≡ 2) }
+{
+    let key = Column {
+        name: Text::from_slice(alloc, b"key")?,
+        col_type: ColType::Int4,
+        nullable: true,
+    };
+    let text = column(alloc, b"text", ColType::Text)?;
+    Ok(Sequence::from_vec(vec![in alloc; key, text]?))
+}
+
+// The bytes of a row of such columns, with a text of 2,000 bytes: four of them fit a page, and five don't.
+fn wide_row(alloc: Global, key: Option<u8>) -> Result<Vec<u8>, NoMemory> {
+    let mut bytes = Vec::new(alloc);
+    match key {
+        Some(number) => bytes.extend_from_slice(&[0, 0, 0, 0, number])?,
+        None => bytes.push(1)?,
+    }
+    bytes.extend_from_slice(&[7, 208])?;
+    for _ in 0..2000u32 {
+        bytes.push(b'x')?;
+    }
+    Ok(bytes)
+}
+
+// The rows with these keys.
+fn wide_rows(alloc: Global, keys: &[Option<u8>], columns: &ColumnList) -> Result<Rows, NoMemory>
+    ensures { IfOk result (All (IsRowOf columns.now)) }
+{
+    let mut rows = Vec::new(alloc);
+    for key in keys {
+        let bytes = wide_row(alloc, *key)?;
+        if let Some(row) = decode_row(alloc, &bytes, columns)? {
+            rows.push(row)?;
+        }
+    }
+    Ok(Sequence::from_vec(rows))
+}
+
+// Whether each item fits an empty page.
+fn all_fit(items: &ItemList) -> bool
+    ensures { result ≡ true → All FitsAlone (byte_lists items.now) }
+{
+    for item in items.items() {
+        if item.len() > 8168 {
+            return false;
+        }
+    }
+    true
+}
+
+fn is_entry(entry: &KeyEntry, wanted: (i64, u32, u32)) -> bool {
+    let (key, page, slot) = wanted;
+    matches!(entry.key, Value::Number(number) if number == key)
+        && entry.page == page
+        && entry.slot == slot
+}
+
+#[test]
+fn entries_stand_in_order_of_key_page_and_slot_without_nulls(rt: HostRuntime) -> Result<(), Fail> {
+    let alloc = rt.alloc();
+    let columns = wide_columns(alloc)?;
+    let keys = [Some(7), None, Some(5), Some(7), Some(5), Some(7)];
+    let rows = wide_rows(alloc, &keys, &columns)?;
+    let items = items_of(alloc, &rows, &columns)?;
+    assert!(rt; items.len() <= 1_000_000 && all_fit(&items));
+    let entries = entries_of(alloc, &rows, &columns, 0, &items)?;
+    let wanted = [(5, 0, 2), (5, 1, 0), (7, 0, 0), (7, 0, 3), (7, 1, 1)];
+    assert_eq!(rt; entries.len(), wanted.len());
+    for (entry, found) in entries.items().iter().zip(wanted) {
+        assert!(rt; is_entry(entry, found));
+    }
+    Ok(())
 }

@@ -65,7 +65,7 @@ module _ {D : Type 0} (g : Ghosts D) where
       let a = there us d (omega (arith, get_below bs d b at, h.len)) in
       let one = h.each d a.0 b a.1 at in
       let is = hold d a.0 pages a.1 (sym one.told ∙ told) in
-      record { whole = is.whole ∙ sym one.size; stored = is.stored; others = λ address below out. is.others address (omega (arith, below, one.size)) out }
+      record { whole = is.whole ∙ sym one.size; stored = is.stored; indexes = is.indexes; others = λ address below out. is.others address (omega (arith, below, one.size)) out }
 
   -- a drive that was new has failed
   pub failed : (olds mids news : List D) (d : ℕ) → AllFresh g olds → AreKept g olds mids → IsFault g d mids news → HasFailed g d news

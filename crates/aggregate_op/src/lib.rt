@@ -1,0 +1,9 @@
+//! Folds of groups of rows: which they are. A fold counts, adds up or takes the least or the greatest of values, group
+//! by group.
+#![tactic(auto)]
+
+mod fold;
+#[cfg(test)]
+mod tests;
+
+pub use fold::{Fold, FoldOp, FoldOpList, FoldPlace, FoldPlaceList};

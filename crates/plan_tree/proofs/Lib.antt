@@ -1,0 +1,21 @@
+pub mod Examples
+mod FormedExamples
+pub mod Lines
+pub mod Sums
+pub mod Choosing
+pub mod Agreement
+pub mod Placement
+pub mod Combined
+pub mod Ascending
+pub mod Joined
+pub mod Bags
+pub mod TreeRows
+pub mod TreeMeaning
+pub mod Typing
+pub mod Resolved
+pub mod TreeAnswers
+pub mod IndexScan
+pub mod IndexReads
+pub mod Elements
+pub mod Shapes
+pub mod Positions

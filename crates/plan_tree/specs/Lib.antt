@@ -1,0 +1,15 @@
+pub mod Assignments
+pub mod Conjuncts
+pub mod Keys
+pub mod Trees
+pub mod Views
+pub mod Combining
+pub mod Rows
+pub mod Pieces
+pub mod Fragments
+pub mod WellFormed
+pub mod Ends
+pub mod Explained
+pub mod TreeLaws
+pub mod Intervals
+pub mod ShapeLaws

@@ -1,0 +1,10 @@
+pub mod Best
+pub mod Bounds
+pub mod Compared
+pub mod Estimates
+pub mod Factors
+pub mod Placed
+pub mod Sets
+pub mod Tables
+pub mod Costs
+pub mod Costed
