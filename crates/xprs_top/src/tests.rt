@@ -375,7 +375,8 @@ fn drives_are_handed_back_with_their_counts_and_their_pages(rt: HostRuntime) -> 
 #[test]
 fn an_index_stands_behind_the_heap_file_of_its_table(rt: HostRuntime) -> Result<(), Fail> {
     let alloc = rt.alloc();
-    let item = "relation ITEM from \"item.csv\" (id = int4, title = text, price = int4, sold = bool) index id|";
+    let item =
+        "relation ITEM from \"item.csv\" (id = int4, title = text, price = int4, sold = bool) index id|";
     let files = files(alloc, &[("cat", item), ("q", "retrieve (x = 1) \\g")])?;
     let ended = run(alloc, &["alone", "cat", "q"], files, SOUND)?;
     assert_eq!(rt; ended.status, 0);
