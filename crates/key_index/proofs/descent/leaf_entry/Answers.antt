@@ -1,0 +1,6 @@
+use Rattle.key_index.proofs.Looks.{told_page}
+use Rattle.key_index.proofs.descent.leaf_entry.Goals as goal
+
+pub returns-clause-told : goal.returns-clause-told
+returns-clause-told g c = λ f items is h front same.
+    c.in-Err.ensures.told c.args.page items (told_page c.args.index.now 0 c.args.left c.args.page (f c.args.index.now.file c.args.page) _ _ c.bytes.result.now items (c.in_ok-found.ensures.told f is) c.deref.ensures c.bytes.ensures.value h) front same

@@ -1,0 +1,10 @@
+use Rattle.key_index.proofs.search.find_lower.Goals as goal
+
+pub returns-in-Equal-clause-told : goal.returns-in-Equal-clause-told
+returns-in-Equal-clause-told g c = λ f entries is holds. rw c.in-Equal.is (c.rank_low.ensures.told f entries is holds)
+
+pub returns-in-AtLeast-clause-told : goal.returns-in-AtLeast-clause-told
+returns-in-AtLeast-clause-told g c = λ f entries is holds. rw c.in-AtLeast.is (c.rank_low-in-AtLeast.ensures.told f entries is holds)
+
+pub returns-in-More-clause-told : goal.returns-in-More-clause-told
+returns-in-More-clause-told g c = λ f entries is holds. rw c.in-More.is (c.rank_high.ensures.told f entries is holds)

@@ -1,0 +1,24 @@
+use Rattle.std.proofs.Common.{◌+◌, List, drop, ap, subst, ◌∙◌}
+use Rattle.std.proofs.lemmas.List.{drop_all}
+use Rattle.rows.specs.declared.plain.Bound.{Bound}
+use Rattle.key_index.specs.Intervals.{interval_of}
+use Rattle.key_index.proofs.Narrowings.{Narrowing, begins, narrows, found, bound_here}
+use Rattle.key_index.proofs.search.interval.Goals as goal
+
+pub loop-bound-init : goal.loop-bound-init
+loop-bound-init g c = begins g.P.PageSource.image c.args.index.now c.items-bound-items.result.now (g.P.PageSource.whole c.args.pages.now) (g.P.PageSource.faults c.args.pages.now)
+
+pub loop-bound-preserved : goal.loop-bound-preserved
+loop-bound-preserved g c =
+    narrows g.P.PageSource.image c.args.index.now c.items-bound-items.result.now (g.P.PageSource.whole c.args.pages.now) (g.P.PageSource.faults c.args.pages.now) (g.P.PageSource.whole c.loop-bound.pages) (g.P.PageSource.whole c.narrow.new.pages) (g.P.PageSource.faults c.loop-bound.pages) (g.P.PageSource.faults c.narrow.new.pages) c.loop-bound.ends c.in_ok-ends.ends c.bound-item.result (drop (c.loop-bound.bound-index + 1) c.items-bound-items.result.now)
+    (subst (λ (bs : List Bound). Narrowing g.P.PageSource.image c.args.index.now c.items-bound-items.result.now (g.P.PageSource.whole c.args.pages.now) (g.P.PageSource.whole c.loop-bound.pages) (g.P.PageSource.faults c.args.pages.now) (g.P.PageSource.faults c.loop-bound.pages) c.loop-bound.ends bs)
+    (bound_here c.items-bound-items.result.now c.loop-bound.bound-index c.bound-item.result c.loop-bound-test.true c.bound-item.is) c.loop-bound.invariant)
+    c.in_ok-ends.ensures.whole c.in_ok-ends.ensures.counts c.in_ok-ends.ensures.within c.in_ok-ends.ensures.told
+
+pub returns-clause-told : goal.returns-clause-told
+returns-clause-told g c = λ f entries is holds.
+    found g.P.PageSource.image c.args.index.now c.items-bound-items.result.now (g.P.PageSource.whole c.args.pages.now) (g.P.PageSource.faults c.args.pages.now) (g.P.PageSource.whole c.loop-bound.pages) (g.P.PageSource.faults c.loop-bound.pages) c.loop-bound.ends
+    (subst (λ (bs : List Bound). Narrowing g.P.PageSource.image c.args.index.now c.items-bound-items.result.now (g.P.PageSource.whole c.args.pages.now) (g.P.PageSource.whole c.loop-bound.pages) (g.P.PageSource.faults c.args.pages.now) (g.P.PageSource.faults c.loop-bound.pages) c.loop-bound.ends bs)
+    (drop_all c.loop-bound.bound-index c.items-bound-items.result.now c.loop-bound-test.false) c.loop-bound.invariant)
+    c.max.result c.max.ensures f entries is holds
+    ∙ ap (λ (bs : List Bound). interval_of bs entries) c.items-bound-items.ensures

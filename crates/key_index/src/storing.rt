@@ -1,0 +1,53 @@
+//! Pages on drives.
+ghost use Rattle.std.specs.Prelude.{◌≡◌, Some, OnOk, IfErr, length, slice_get};
+ghost use Rattle.heap_page.specs.Maps.{IsMap, HasPage, drive_of, address_of};
+ghost use Rattle.heap_page.specs.Stores.{AreWritten, HaveRoom, StoreCause, TellsAt};
+
+use heap_page::{FileMap, Page, StoreErr};
+use xp_outside::Drive;
+
+// Whether each drive has the pages that the map needs.
+pub(crate) fn check_room<D: Drive>(drives: &[D], map: &FileMap) -> Result<(), StoreErr>
+    requires map { IsMap map.now }
+    requires drives { length drives.now ≡ map.now.drives }
+    ensures ok { OnOk result (HaveRoom D.Drive map.now drives.now) }
+    ensures err { IfErr result (StoreCause D.Drive map.now drives.now drives.now) }
+{
+    let _count = map.drives;
+    for (place, drive) in drives.iter().enumerate() {
+        let needs = map.needs(place as u32);
+        let capacity = drive.capacity();
+        if needs > capacity as u64 {
+            return Err(StoreErr::DriveFull {
+                drive: place as u32,
+                needs,
+                capacity,
+            });
+        }
+    }
+    Ok(())
+}
+
+// Writes one page.
+pub(crate) fn store<D: Drive>(
+    drives: &mut [D],
+    map: &FileMap,
+    file: u32,
+    number: u32,
+    page: &Page,
+) -> Result<(), StoreErr>
+    requires map { IsMap map.now }
+    requires drives { length drives.old ≡ map.now.drives }
+    requires page { HasPage map.now.files.items file number }
+    requires room { HaveRoom D.Drive map.now drives.old }
+    ensures written { AreWritten D.Drive (λ d a. (d ≡ drive_of map.now number) × (a ≡ address_of map.now file number)) drives.old drives.new }
+    ensures ok { OnOk result ((drive : _) → slice_get drives.new (drive_of map.now number) ≡ Some drive → TellsAt (D.pages drive) (address_of map.now file number) page.now) }
+    ensures err { IfErr result (StoreCause D.Drive map.now drives.old drives.new) }
+{
+    let (place, address) = map.place(file, number);
+    let drive = &mut drives[place as usize];
+    match drive.write(address, page.bytes()) {
+        Ok(()) => Ok(()),
+        Err(_) => Err(StoreErr::DriveFault(place)),
+    }
+}
