@@ -150,7 +150,7 @@ fn fetch_by_all<R: Threads + Wait + Sync>(
     thread::for_each_mut(
         rt,
         team.as_mut_slice(),
-        threads as usize,
+        threads.max(1) as usize,
         &|_, reader| { read(rt, alloc, &pool, pages, fetches, reader) },
     );
     let answered = join_all(&pool, &mut seat, team);
