@@ -1,5 +1,5 @@
 -- The only file of a map.
-use Rattle.std.proofs.Common.{◌≡◌, ℕ, List, [], ◌∷◌, refl, sym}
+use Rattle.std.proofs.Common.{◌≡◌, ℕ, List, [], ◌∷◌, refl}
 use Rattle.heap_page.specs.declared.head.FileKind.{FileKind}
 use Rattle.heap_page.specs.declared.head.FileKind.TheVariants.{Index}
 use Rattle.heap_page.specs.declared.map.PageFile.{PageFile}
