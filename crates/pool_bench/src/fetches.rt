@@ -14,10 +14,10 @@ use std::thread;
 use std::thread::Threads;
 use xp_outside::MemDrive;
 
-/// The heap file has so many rows.
+// The heap file has so many rows.
 const ROWS: u32 = 100_000;
 
-/// A thread's seat, the page that it begins with, and how many of its fetches were answered.
+// A thread's seat, the page that it begins with, and how many of its fetches were answered.
 #[derive(Drop)]
 struct Reader {
     seat: Option<PoolSeat<MemDrive>>,

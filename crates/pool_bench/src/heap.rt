@@ -31,7 +31,7 @@ fn rows_of_numbers(alloc: Global, rows: u32) -> Result<ItemList, NoMemory>
     Ok(Sequence::from_vec(items))
 }
 
-/// Writes the heap file of so many rows. An `Err` says that there are more than 1,000,000, or that there is no memory.
+/// Writes the heap file of so many rows. It answers `TooMany` where there are more than 1,000,000.
 #[tactic(auto, using(crate::proofs::Files::has_pages))]
 pub fn write_heap(alloc: Global, rows: u32) -> Result<HeapFile, BenchErr>
     ensures { IfOk result IsHeapFile }

@@ -13,7 +13,7 @@ use rows::{ColType, KeyEntry, KeyEntryList, KeyIndex, Value};
 use std::alloc::Global;
 use xp_outside::{MemDrive, NoMemory};
 
-/// How many entries stand on each heap page.
+// How many entries stand on each heap page.
 const SLOTS: u32 = 1000;
 
 /// An index, whose file is the only one of its map, on the drives.
@@ -56,7 +56,7 @@ fn lay(alloc: Global, entries: &KeyEntryList, heap_pages: u32) -> Result<IndexFi
     Ok(IndexFile { index, map, drives })
 }
 
-/// Writes the index over so many entries. An `Err` says that there are more than 1,000,000, or that there is no memory.
+/// Plans and writes the index over so many entries. It answers `TooMany` where there are more than 1,000,000.
 pub fn write_entries(alloc: Global, count: u32) -> Result<IndexFile, BenchErr>
     ensures { IfOk result IsIndexFile }
 {

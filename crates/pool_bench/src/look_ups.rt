@@ -11,24 +11,24 @@ use key_index::entry;
 use rows::KeyIndex;
 use std::alloc::Global;
 
-/// How many pages the pool keeps.
+// How many pages the pool keeps.
 const FRAMES: u32 = 64;
 
-/// Where a search can be made: the index has a page and a level.
+// Whether a search can be made: the index has a page and a level.
 fn is_usable(index: &KeyIndex) -> bool
     ensures { IsTrue result → IsUsable index.now }
 {
     index.pages > 0 && index.height > 0
 }
 
-/// The next of the random numbers.
+// The next of the random numbers.
 fn next(state: u64) -> u64 {
     state
         .wrapping_mul(6_364_136_223_846_793_005)
         .wrapping_add(1_442_695_040_888_963_407)
 }
 
-/// Whether the entry of this number is answered with its place.
+// Whether the entry of this number is answered with its place.
 fn is_right<P: PageSource>(alloc: Global, index: &KeyIndex, pages: &mut P, number: u32) -> bool
     requires file { HasIndex (P.files (P.whole pages.old)) index.now }
     requires some { IsUsable index.now }
@@ -41,7 +41,7 @@ fn is_right<P: PageSource>(alloc: Global, index: &KeyIndex, pages: &mut P, numbe
     }
 }
 
-/// How many of so many entries are answered right.
+// How many of so many entries are answered right.
 fn count_right<P: PageSource>(alloc: Global, index: &KeyIndex, pages: &mut P, count: u32) -> u32
     requires file { HasIndex (P.files (P.whole pages.old)) index.now }
     requires some { IsUsable index.now }
@@ -60,7 +60,8 @@ fn count_right<P: PageSource>(alloc: Global, index: &KeyIndex, pages: &mut P, co
     right
 }
 
-/// Writes an index of so many entries, and fetches `count` of them. It gives how many were right.
+/// Writes an index of so many entries, and fetches `count` of them. It gives how many were
+/// answered with their places.
 #[tactic(auto, using(crate::proofs::Files::has_index))]
 pub fn look_up(alloc: Global, count: u32, size: u32) -> Result<u32, BenchErr> {
     let IndexFile { index, map, drives } = write_entries(alloc, size)?;

@@ -23,7 +23,7 @@ use std::sync::Wait;
 use std::thread::Threads;
 use std::{env, io};
 
-/// The number that stands at a place among the words.
+// The number that stands at a place among the words.
 fn number_in(words: &[String], place: usize) -> Option<u32> {
     match words.get(place) {
         Some(word) => word.parse().ok(),
@@ -31,14 +31,14 @@ fn number_in(words: &[String], place: usize) -> Option<u32> {
     }
 }
 
-/// How many pages a heap file and its index have.
+// How many pages a heap file and its index have.
 fn write_both(alloc: Global, rows: u32) -> Result<u32, BenchErr> {
     let heap = write_heap(alloc, rows)?;
     let index = write_entries(alloc, rows)?;
     Ok(heap.pages.saturating_add(index.index.pages))
 }
 
-/// Does what the words behind the program's name say, and gives the number to be printed.
+// Does what the words behind the program's name say, and gives the number to be printed.
 fn count<R: Threads + Wait + Sync>(
     rt: &R,
     alloc: Global,
