@@ -1,5 +1,5 @@
 -- The row that bytes encode, whole.
-use Rattle.std.proofs.Common.{◌≡◌, ℕ, zero, suc, ◌+◌, ◌≤◌, ◌<◌, Bool, true, false, true≢false, cond, ◌&&◌, leb, eqb, List, [], ◌∷◌, ◌++◌, append_assoc, length, get_or, take, drop, refl, sym, ap, subst, ◌∙◌, arith, inl, inr, Option, Some, None, option_map, option_and_then, is_some, IsTrue, flat_map, leb-true, le-leb, take-append-drop, length-append, length-take-le, take_at, drop_at}
+use Rattle.std.proofs.Common.{◌≡◌, ℕ, zero, suc, ◌+◌, ◌≤◌, ◌<◌, Bool, true, false, true≢false, cond, ◌&&◌, leb, eqb, List, [], ◌∷◌, ◌++◌, append_assoc, length, get_or, take, drop, refl, sym, ap, subst, ◌∙◌, arith, inl, inr, Option, Some, None, Result, Ok, Err, IfOk, option_map, option_and_then, is_some, IsTrue, flat_map, leb-true, le-leb, take-append-drop, length-append, length-take-le, take_at, drop_at}
 use Rattle.std.proofs.lemmas.Option.{none-some}
 use Rattle.std.proofs.lemmas.Bool.{cases_Bool, and_parts, lt-leb}
 use Rattle.std.proofs.Math.Bool.{and-false}
@@ -188,3 +188,9 @@ step cs i bits bytes all front now c v rest h same (tail, e, whole) is pushed =
 pub same_values : (columns cs : List Column) (bytes front rest : List ℕ) (n bits : ℕ) → n ≡ bit_bytes columns → cs ≡ columns → front ≡ take n bytes → rest ≡ drop n bytes → bits ≡ low_number front →
     values_in columns (low_number (take (bit_bytes columns) bytes)) (drop (bit_bytes columns) bytes) ≡ values_in cs bits rest
 same_values columns cs bytes front rest n bits is same f r b = rw (b, f, r, same, is) refl
+
+-- what was read of the same bytes
+pub found_same : (columns : List Column) (bytes : List ℕ) (there read : Option (List Value)) → there ≡ read → Decodes columns bytes there →
+    {E : Type 0} (result : Result (Option (List Value)) E) → IfOk result (λ found. found ≡ read) → IfOk result (Decodes columns bytes)
+found_same columns bytes there read same d (Ok found) is = subst (Decodes columns bytes) (same ∙ sym is) d
+found_same columns bytes there read same d (Err e) is = tt

@@ -197,7 +197,7 @@ impl<'a> RowView<'a> {
     pub fn to_row(&self, alloc: Global) -> Result<Row, AllocError>
         ensures { IfOk result (λ row. row ≡ self.now) }
     {
-        let mut row = Vec::new(alloc);
+        let mut row = Vec::with_capacity(alloc, self.columns.len())?;
         let mut bits = self.bits;
         let mut rest = self.bytes;
         for column in self.columns {
@@ -214,8 +214,37 @@ impl<'a> RowView<'a> {
     }
 }
 
+// The values of the columns, where the bits and the bytes are just theirs.
+fn read_values(
+    alloc: Global,
+    columns: &[Column],
+    bits: u32,
+    bytes: &[u8],
+) -> Result<Option<Row>, AllocError>
+    ensures { IfOk result (λ found. found ≡ values_in columns.now bits bytes.now) }
+{
+    let mut row = Vec::with_capacity(alloc, columns.len())?;
+    let mut bits = bits;
+    let mut rest = bytes;
+    for column in columns {
+        match value_front(column, bits, rest) {
+            Some((value, next)) => {
+                row.push(value.to_value(alloc)?)?;
+                rest = next;
+            }
+            None => return Ok(None),
+        }
+        bits = bits_behind(column, bits);
+    }
+    if bits == 0 && rest.is_empty() {
+        Ok(Some(Sequence::from_vec(row)))
+    } else {
+        Ok(None)
+    }
+}
+
 /// The row whose encoding the bytes are. It is `None` where they are no encoding of a row of the columns, or where there
-/// are more than 32 columns.
+/// are more than 32 columns. It goes over the bytes once.
 pub fn decode_row(
     alloc: Global,
     bytes: &[u8],
@@ -223,8 +252,11 @@ pub fn decode_row(
 ) -> Result<Option<Row>, AllocError>
     ensures { IfOk result (Decodes columns.now bytes.now) }
 {
-    match RowView::read(bytes, columns) {
-        Some(view) => Ok(Some(view.to_row(alloc)?)),
-        None => Ok(None),
+    let columns = columns.items();
+    let front = bit_bytes(columns);
+    if columns.len() > 32 || bytes.len() < front {
+        return Ok(None);
     }
+    let (bits, bytes) = bytes.split_at(front);
+    read_values(alloc, columns, low_number(bits), bytes)
 }
