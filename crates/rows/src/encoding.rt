@@ -120,19 +120,27 @@ fn put_values(out: &mut Vec<u8>, row: &[Value]) -> Result<(), AllocError>
     Ok(())
 }
 
-/// The bytes of a row: a bit for each nullable column that says whether its value is null, in as few bytes as hold them,
-/// the first column's bit lowest in the first byte; then each value that isn't null. An integer takes four bytes, the
-/// highest first, a text two bytes for its length and its own, a truth value one. The row is of the columns, and there are
-/// at most 32 of them.
+/// Puts the bytes of a row behind those of `out`: a bit for each nullable column that says whether its value is null, in as
+/// few bytes as hold them, the first column's bit lowest in the first byte; then each value that isn't null. An integer
+/// takes four bytes, the highest first, a text two bytes for its length and its own, a truth value one. The row is of the
+/// columns, and there are at most 32 of them.
+pub fn put_row(out: &mut Vec<u8>, row: &Row, columns: &ColumnList) -> Result<(), AllocError>
+    requires few { length columns.now ≤ 32 }
+    requires row { IsRowOf columns.now row.now }
+    ensures { OnOk result (out.new.items ≡ out.old.items ++ row_bytes columns.now row.now) }
+{
+    let bits = null_bits(row.items(), columns.items());
+    put_bits(out, bit_bytes(columns.items()), bits)?;
+    put_values(out, row.items())
+}
+
+/// The bytes of a row, as `put_row` puts them.
 pub fn encode_row(alloc: Global, row: &Row, columns: &ColumnList) -> Result<Vec<u8>, AllocError>
     requires few { length columns.now ≤ 32 }
     requires row { IsRowOf columns.now row.now }
     ensures { IfOk result (λ bytes. bytes.items ≡ row_bytes columns.now row.now) }
 {
-    let bits = null_bits(row.items(), columns.items());
-    let mut out = Vec::new(alloc);
-    out.reserve(row_size(row, columns) as usize)?;
-    put_bits(&mut out, bit_bytes(columns.items()), bits)?;
-    put_values(&mut out, row.items())?;
+    let mut out = Vec::with_capacity(alloc, row_size(row, columns) as usize)?;
+    put_row(&mut out, row, columns)?;
     Ok(out)
 }

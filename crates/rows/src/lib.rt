@@ -11,7 +11,7 @@ mod tests;
 mod text;
 mod value;
 
-pub use encoding::{encode_row, row_size};
+pub use encoding::{encode_row, put_row, row_size};
 pub use field::{ColType, FieldErr, field_text, read_field};
 pub use lists::Sequence;
 pub use order::{SortKey, SortKeyList, arrange_rows, compare, row_order};
