@@ -1,36 +1,35 @@
 -- How many pages a table needs.
 use Rattle.std.proofs.Common.{◌≡◌, ℕ, zero, suc, ◌+◌, ◌*◌, ◌<◌, ◌≤◌, List, [], ◌∷◌, ◌++◌, length, get_or, take, drop, refl, sym, ap, subst, ◌∙◌, arith, ◌-◌}
 use Rattle.std.specs.List.{All, AllByRecursion}
-use Rattle.std.specs.Global.{Vec}
-use Rattle.std.proofs.lemmas.List.{length-map, take_all, get_or-map, drop_all}
-use Rattle.heap_page.specs.Blocks.{weight_of, item_weight, laid, blocks_of, byte_lists, ArePages, FitsAlone}
+use Rattle.std.proofs.lemmas.List.{drop_all}
+use Rattle.heap_page.specs.Blocks.{weight_of, item_weight, laid, blocks_of, ArePages, FitsAlone}
 use Rattle.std.specs.Prelude.{slice_get, Some, ◌^◌}
 use Rattle.heap_page.specs.Pages.{Fits, total, page_of}
 use Rattle.heap_page.proofs.Written.{IsPageOf, page_again}
-use Rattle.heap_page.proofs.Cut.{weight-append, laid_more, laid_next, laid_end, begins, are_blocks, only_blocks}
+use Rattle.heap_page.proofs.Cut.{length-laid, weight-append, laid_more, laid_next, laid_end, begins, are_blocks, only_blocks}
 
 pub light : (items : List (List ℕ)) → AllByRecursion FitsAlone items → AllByRecursion (λ item. item_weight item ≤ 8172) items
 light [] each = tt
 light (x ∷ xs) each = (omega (arith, each.0), light xs each.1)
 
-pub items_here : (vs : List (Vec ℕ)) (i : ℕ) (v : Vec ℕ) → i < length vs → v ≡ get_or vs i v → drop i (byte_lists vs) ≡ v.items ∷ drop (i + 1) (byte_lists vs)
-items_here [] i v lt e = absurd (omega arith)
-items_here (w ∷ vs) zero v lt e = ap (λ (u : Vec ℕ). u.items ∷ byte_lists vs) (sym e)
-items_here (w ∷ vs) (suc i) v lt e = let k : suc i + 1 ≡ suc (i + 1) = omega arith in rw k (items_here vs i v (omega arith) e)
+pub items_here : (items : List (List ℕ)) (i : ℕ) (x : List ℕ) → slice_get items i ≡ Some x → drop i items ≡ x ∷ drop (i + 1) items
+items_here [] i x e = absurd cc
+items_here (y ∷ ys) zero x e = let s : y ≡ x = cc in ap (λ (z : List ℕ). z ∷ ys) s
+items_here (y ∷ ys) (suc i) x e = let k : suc i + 1 ≡ suc (i + 1) = omega arith in rw k (items_here ys i x e)
 
-pub fit_here : (vs : List (Vec ℕ)) (i : ℕ) (v : Vec ℕ) (x : List ℕ) → i < length vs → v ≡ get_or vs i v → x ≡ v.items → All FitsAlone (byte_lists vs) → FitsAlone x
-fit_here vs i v x lt e xe h =
-    let f = h i [] (omega (arith, length-map vs (λ (u : Vec ℕ). u.items))) in
-    let k : get_or (byte_lists vs) i [] ≡ x = get_or-map (λ (u : Vec ℕ). u.items) vs i v [] lt ∙ (ap (λ (u : Vec ℕ). u.items) (sym e) ∙ sym xe) in
-    omega (arith, f, ap length k)
+pub fit_here : (items : List (List ℕ)) (i : ℕ) (x : List ℕ) → slice_get items i ≡ Some x → All FitsAlone items → FitsAlone x
+fit_here [] i x e h = absurd cc
+fit_here (y ∷ ys) zero x e h = let s : y ≡ x = cc in omega (arith, h 0 [] (omega arith), ap length s)
+fit_here (y ∷ ys) (suc i) x e h = fit_here ys i x e (λ k d lt. h (suc k) d (omega arith))
 
-pub tail_is : (items : List (Vec ℕ)) → take (length items - 1) (drop 1 items) ≡ drop 1 items
-tail_is [] = refl
-tail_is (v ∷ vs) = let e : suc (length vs) - 1 ≡ length vs = omega arith in rw e (take_all (length vs) vs (omega arith))
+-- the blocks of some items begin with the first one
+pub first_laid : (items : List (List ℕ)) (x : List ℕ) → slice_get items 0 ≡ Some x → blocks_of item_weight 8172 items ≡ laid item_weight 8172 (x ∷ []) (drop 1 items)
+first_laid [] x e = absurd cc
+first_laid (y ∷ ys) x e = let s : y ≡ x = cc in ap (λ (z : List ℕ). laid item_weight 8172 (z ∷ []) ys) s
 
-pub tail_fit : (items : List (Vec ℕ)) → All FitsAlone (byte_lists items) → All FitsAlone (byte_lists (drop 1 items))
-tail_fit [] h = h
-tail_fit (v ∷ vs) h = λ k d lt. h (suc k) d (omega arith)
+pub length-cut : (items : List (List ℕ)) → length (blocks_of item_weight 8172 items) ≤ length items
+length-cut [] = omega arith
+length-cut (x ∷ xs) = omega (arith, length-laid item_weight 8172 (x ∷ []) xs)
 
 -- ---- the state of the count
 
@@ -40,7 +39,7 @@ pub record Counts (blocks : List (List (List ℕ))) (pages used : ℕ) (rest : L
   pub within : used ≤ 8172
   pub all : length blocks + 1 ≡ pages + length (laid item_weight 8172 part rest)
 
-pub starts : (first : List ℕ) (rest : List (List ℕ)) (used : ℕ) → used ≡ item_weight first → FitsAlone first → Counts (laid item_weight 8172 (first ∷ []) rest) 1 used rest
+starts : (first : List ℕ) (rest : List (List ℕ)) (used : ℕ) → used ≡ item_weight first → FitsAlone first → Counts (laid item_weight 8172 (first ∷ []) rest) 1 used rest
 starts first rest used e fit = record { part = first ∷ []; used_is = omega (arith, e); within = omega (arith, e, fit); all = omega arith }
 
 pub goes_on : (blocks : List (List (List ℕ))) (pages used more : ℕ) (x : List ℕ) (rest : List (List ℕ)) → Counts blocks pages used (x ∷ rest) → more ≡ item_weight x → used + more ≤ 8172 → Counts blocks pages (used + more) rest
@@ -63,34 +62,28 @@ some_laid part xs = omega (arith, ap length (begins item_weight 8172 part xs).2)
 pub pages_small : (blocks : List (List (List ℕ))) (pages used : ℕ) (rest : List (List ℕ)) → Counts blocks pages used rest → pages ≤ length blocks
 pages_small blocks pages used rest c = omega (arith, c.all, some_laid c.part rest)
 
--- one item of a vector of items
-pub at_item : (blocks : List (List (List ℕ))) (pages used : ℕ) (vs : List (Vec ℕ)) (i : ℕ) (v : Vec ℕ) (x : List ℕ) → i < length vs → v ≡ get_or vs i v → x ≡ v.items →
-    Counts blocks pages used (drop i (byte_lists vs)) → Counts blocks pages used (x ∷ drop (i + 1) (byte_lists vs))
-at_item blocks pages used vs i v x lt e xe c =
-    subst (Counts blocks pages used) (items_here vs i v lt e ∙ ap (λ (y : List ℕ). y ∷ drop (i + 1) (byte_lists vs)) (sym xe)) c
+pub started : (items : List (List ℕ)) (x : List ℕ) (used : ℕ) → slice_get items 0 ≡ Some x → used ≡ item_weight x → FitsAlone x → Counts (blocks_of item_weight 8172 items) 1 used (drop 1 items)
+started items x used at e fit = subst (λ (bs : List (List (List ℕ))). Counts bs 1 used (drop 1 items)) (sym (first_laid items x at)) (starts x (drop 1 items) used e fit)
 
-pub at_end : (blocks : List (List (List ℕ))) (pages used : ℕ) (vs : List (Vec ℕ)) (i : ℕ) → length vs ≤ i → Counts blocks pages used (drop i (byte_lists vs)) → pages ≡ length blocks
-at_end blocks pages used vs i le c =
-    ends blocks pages used (subst (Counts blocks pages used) (drop_all i (byte_lists vs) (omega (arith, length-map vs (λ (v : Vec ℕ). v.items)))) c)
+-- one of the items
+pub at_item : (blocks : List (List (List ℕ))) (pages used : ℕ) (items : List (List ℕ)) (i : ℕ) (x : List ℕ) → slice_get items i ≡ Some x →
+    Counts blocks pages used (drop i items) → Counts blocks pages used (x ∷ drop (i + 1) items)
+at_item blocks pages used items i x e c = subst (Counts blocks pages used) (items_here items i x e) c
 
-pub all_items : (vs : List (Vec ℕ)) → All FitsAlone (byte_lists vs) → AllByRecursion FitsAlone (byte_lists vs)
+pub at_end : (blocks : List (List (List ℕ))) (pages used : ℕ) (items : List (List ℕ)) (i : ℕ) → length items ≤ i → Counts blocks pages used (drop i items) → pages ≡ length blocks
+at_end blocks pages used items i le c = ends blocks pages used (subst (Counts blocks pages used) (drop_all i items le) c)
+
+pub all_items : (items : List (List ℕ)) → All FitsAlone items → AllByRecursion FitsAlone items
 all_items [] h = tt
-all_items (v ∷ vs) h = (h 0 [] (omega arith), all_items vs (λ k d lt. h (suc k) d (omega arith)))
+all_items (x ∷ xs) h = (h 0 [] (omega arith), all_items xs (λ k d lt. h (suc k) d (omega arith)))
 
 -- the blocks are those of the function
 pub is_cut : (items : List (List ℕ)) (blocks : List (List (List ℕ))) → AllByRecursion FitsAlone items → ArePages items blocks → blocks ≡ blocks_of item_weight 8172 items
 is_cut items blocks each h = only_blocks item_weight 8172 items blocks (blocks_of item_weight 8172 items) h (are_blocks item_weight 8172 items (light items each))
 
-pub none_cut : (vs : List (Vec ℕ)) → length vs < 1 → blocks_of item_weight 8172 (byte_lists vs) ≡ []
-none_cut [] lt = refl
-none_cut (v ∷ vs) lt = absurd (omega arith)
-
-pub some_cut : (vs : List (Vec ℕ)) (v : Vec ℕ) (x : List ℕ) → 0 < length vs → v ≡ get_or vs 0 v → x ≡ v.items →
-    laid item_weight 8172 (x ∷ []) (byte_lists (take (length vs - 1) (drop 1 vs))) ≡ blocks_of item_weight 8172 (byte_lists vs)
-some_cut [] v x lt e xe = absurd (omega arith)
-some_cut (w ∷ vs) v x lt e xe =
-    ap (λ (ys : List (Vec ℕ)). laid item_weight 8172 (x ∷ []) (byte_lists ys)) (tail_is (w ∷ vs))
-    ∙ ap (λ (y : List ℕ). laid item_weight 8172 (y ∷ []) (byte_lists vs)) (xe ∙ ap (λ (u : Vec ℕ). u.items) e)
+pub none_cut : (items : List (List ℕ)) → length items ≡ 0 → blocks_of item_weight 8172 items ≡ []
+none_cut [] e = refl
+none_cut (x ∷ xs) e = absurd (omega arith)
 
 -- ---- a page of a table holds what was cut for it
 

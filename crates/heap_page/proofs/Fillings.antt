@@ -1,9 +1,8 @@
 -- Filling pages one after the other.
 use Rattle.std.proofs.Common.{◌≡◌, ℕ, zero, suc, ◌+◌, ◌*◌, ◌/◌, ◌<◌, ◌≤◌, List, [], ◌∷◌, ◌++◌, length, get_or, drop, ◌^◌, Option, Some, None, refl, sym, ap, subst, ◌∙◌, arith, inl, inr}
 use Rattle.std.specs.Prelude.{slice_get, ◌⊎◌, IfErr, Result, Ok, Err}
-use Rattle.std.specs.Global.{Vec}
 use Rattle.std.proofs.lemmas.Bool.{cases_lt}
-use Rattle.std.proofs.lemmas.List.{length-drop, length-map, drop_all}
+use Rattle.std.proofs.lemmas.List.{length-drop, drop_all}
 use Rattle.std.proofs.lemmas.Nat.{div-add-mod'}
 use Rattle.xp_outside.specs.Outside.{Rose}
 use Rattle.xp_outside.specs.declared.drive.Drive.{Ghosts}
@@ -16,7 +15,7 @@ use Rattle.heap_page.specs.declared.page.Push.TheVariants.{Pushed, NoRoom}
 use Rattle.heap_page.proofs.Pushed.{pushes_on}
 use Rattle.heap_page.proofs.Written.{page_again}
 use Rattle.heap_page.proofs.Striping.{file_pages}
-use Rattle.heap_page.specs.Blocks.{weight_of, item_weight, laid, byte_lists}
+use Rattle.heap_page.specs.Blocks.{weight_of, item_weight, laid}
 use Rattle.heap_page.specs.Maps.{drive_of, address_of, base, IsMap, IsPlace, HasPage, HasPages}
 use Rattle.heap_page.specs.Stores.{TellsAt, KeepsBut, IsWritten, AreWritten, Stand, HaveRoom, StoreCause}
 use Rattle.heap_page.proofs.Cut.{begins, laid_more, laid_next, laid_end}
@@ -279,12 +278,9 @@ module _ {D : Type 0} (g : Ghosts D) where
     pub page_after : (number : ℕ) (page x page1 : List ℕ) (rest : List (List ℕ)) (news : List D) → Filling map file blocks olds number page (x ∷ rest) news → Pushes NoRoom page x page1 → page1 ≡ page
     page_after number page x page1 rest news s h = h.1
 
-    pub at_item : (others : List (Vec ℕ)) (i : ℕ) (v : Vec ℕ) (x : List ℕ) (number : ℕ) (page : List ℕ) (news : List D) → i < length others → v ≡ get_or others i v → x ≡ v.items →
-        Filling map file blocks olds number page (drop i (byte_lists others)) news → Filling map file blocks olds number page (x ∷ drop (i + 1) (byte_lists others)) news
-    at_item others i v x number page news lt e xe s =
-        subst (λ (r : List (List ℕ)). Filling map file blocks olds number page r news)
-        (items_here others i v lt e ∙ ap (λ (y : List ℕ). y ∷ drop (i + 1) (byte_lists others)) (sym xe)) s
+    pub at_item : (items : List (List ℕ)) (i : ℕ) (x : List ℕ) (number : ℕ) (page : List ℕ) (news : List D) → slice_get items i ≡ Some x →
+        Filling map file blocks olds number page (drop i items) news → Filling map file blocks olds number page (x ∷ drop (i + 1) items) news
+    at_item items i x number page news e s = subst (λ (r : List (List ℕ)). Filling map file blocks olds number page r news) (items_here items i x e) s
 
-    pub at_end : (others : List (Vec ℕ)) (i number : ℕ) (page : List ℕ) (news : List D) → length others ≤ i → Filling map file blocks olds number page (drop i (byte_lists others)) news → Filling map file blocks olds number page [] news
-    at_end others i number page news le s =
-        subst (λ (r : List (List ℕ)). Filling map file blocks olds number page r news) (drop_all i (byte_lists others) (omega (arith, length-map others (λ (v : Vec ℕ). v.items)))) s
+    pub at_end : (items : List (List ℕ)) (i number : ℕ) (page : List ℕ) (news : List D) → length items ≤ i → Filling map file blocks olds number page (drop i items) news → Filling map file blocks olds number page [] news
+    at_end items i number page news le s = subst (λ (r : List (List ℕ)). Filling map file blocks olds number page r news) (drop_all i items le) s

@@ -7,5 +7,6 @@ mod Views
 mod Striping
 pub mod Cut
 mod Counted
+mod Itemised
 mod Found
 mod Fillings

@@ -1,7 +1,6 @@
 -- A list that is cut into blocks, each as long as may be. Every item has a weight, and a block has a limit.
-use Rattle.std.specs.Prelude.{◌≡◌, ℕ, ◌+◌, ◌<◌, ◌≤◌, nat_le, List, [], ◌∷◌, ◌++◌, length, take, map, if◌then◌else◌, ⊤}
+use Rattle.std.specs.Prelude.{◌≡◌, ℕ, ◌+◌, ◌<◌, ◌≤◌, nat_le, List, [], ◌∷◌, ◌++◌, length, take, if◌then◌else◌, ⊤}
 use Rattle.std.specs.List.{AllByRecursion}
-use Rattle.std.specs.Global.{Vec}
 
 abbrev pub weight_of : {X : Type 0} → (X → ℕ) → List X → ℕ
 weight_of weight [] = 0
@@ -44,10 +43,6 @@ item_weight item = 4 + length item
 -- the pages of a table: a page has room for 8,172 bytes behind its head
 abbrev pub ArePages : List (List ℕ) → List (List (List ℕ)) → Type 0
 ArePages items blocks = AreBlocks item_weight 8172 items blocks
-
--- the bytes of vectors
-abbrev pub byte_lists : List (Vec ℕ) → List (List ℕ)
-byte_lists items = map (λ v. v.items) items
 
 -- an item that fits an empty page
 abbrev pub FitsAlone : List ℕ → Type 0

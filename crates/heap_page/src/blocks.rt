@@ -1,12 +1,9 @@
 //! How many pages a table needs.
-ghost use Rattle.std.specs.Prelude.{◌≡◌, ◌≤◌, ◌+◌, ◌∷◌, [], ℕ, List, All, length};
-ghost use Rattle.heap_page.specs.Blocks.{ArePages, FitsAlone, byte_lists, item_weight, laid};
+ghost use Rattle.std.specs.Prelude.{◌≡◌, ◌<◌, ◌≤◌, ◌+◌, ℕ, List, All, length};
+ghost use Rattle.heap_page.specs.Blocks.{ArePages, FitsAlone, blocks_of, item_weight};
 
-use lists::Sequence;
+use crate::ItemList;
 use xp_outside::PAGE;
-
-/// The bytes of rows, in the order in which they are laid.
-pub type ItemList = Sequence<Vec<u8>>;
 
 // How many bytes an item takes: its own and its line pointer.
 fn taken(item: &[u8]) -> usize
@@ -17,16 +14,16 @@ fn taken(item: &[u8]) -> usize
 }
 
 // How many pages a table with an item needs.
-fn count_pages(first: &[u8], others: &[Vec<u8>]) -> u32
-    requires number { length others.now ≤ 1000000 }
-    requires first { FitsAlone first.now }
-    requires others { All FitsAlone (byte_lists others.now) }
-    ensures { result ≡ length (laid item_weight 8172 (first.now ∷ []) (byte_lists others.now)) }
+fn count_pages(items: &ItemList) -> u32
+    requires some { 0 < length items.now }
+    requires number { length items.now ≤ 1000000 }
+    requires items { All FitsAlone items.now }
+    ensures { result ≡ length (blocks_of item_weight 8172 items.now) }
 {
     let mut pages = 1u32;
-    let mut used = taken(first);
-    for item in others {
-        let more = taken(item);
+    let mut used = taken(items.get(0));
+    for number in 1..items.len() {
+        let more = taken(items.get(number));
         if used + more <= PAGE - 20 {
             used += more;
         } else {
@@ -40,11 +37,12 @@ fn count_pages(first: &[u8], others: &[Vec<u8>]) -> u32
 /// How many pages a table with these items needs. It takes no memory.
 pub fn pages_of(items: &ItemList) -> u32
     requires number { length items.now ≤ 1000000 }
-    requires items { All FitsAlone (byte_lists items.now) }
-    ensures { (blocks : List (List (List ℕ))) → ArePages (byte_lists items.now) blocks → result ≡ length blocks }
+    requires items { All FitsAlone items.now }
+    ensures { (blocks : List (List (List ℕ))) → ArePages items.now blocks → result ≡ length blocks }
 {
-    match items.items() {
-        [] => 0,
-        [first, others @ ..] => count_pages(first, others),
+    if items.is_empty() {
+        0
+    } else {
+        count_pages(items)
     }
 }

@@ -1,7 +1,7 @@
 //! Writing the pages of a table.
 ghost use Rattle.std.specs.Prelude.{◌≡◌, ◌+◌, ◌^◌, ◌<◌, ◌∷◌, [], ℕ, List, Some, OnOk, IfErr, IfOk, length, slice_get};
 ghost use Rattle.std.specs.List.{All};
-ghost use Rattle.heap_page.specs.Blocks.{ArePages, FitsAlone, byte_lists, item_weight, laid};
+ghost use Rattle.heap_page.specs.Blocks.{ArePages, FitsAlone, blocks_of, item_weight};
 ghost use Rattle.heap_page.specs.Maps.{IsMap, IsPlace, HasPage, HasPages, drive_of, address_of};
 ghost use Rattle.heap_page.specs.Pages.{page_of};
 ghost use Rattle.heap_page.specs.Stores.{AreWritten, HaveRoom, Stand, StoreCause, TellsAt};
@@ -100,22 +100,22 @@ fn write_pages<D: Drive>(
     drives: &mut [D],
     map: &FileMap,
     file: u32,
-    first: &[u8],
-    others: &[Vec<u8>],
+    items: &ItemList,
 ) -> Result<(), StoreErr>
     requires map { IsMap map.now }
     requires drives { length drives.old ≡ map.now.drives }
     requires room { HaveRoom D.Drive map.now drives.old }
-    requires pages { HasPages map.now.files.items file (length (laid item_weight 8172 (first.now ∷ []) (byte_lists others.now))) }
-    requires first { FitsAlone first.now }
-    requires others { All FitsAlone (byte_lists others.now) }
+    requires some { 0 < length items.now }
+    requires items { All FitsAlone items.now }
+    requires pages { HasPages map.now.files.items file (length (blocks_of item_weight 8172 items.now)) }
     ensures written { AreWritten D.Drive (IsPlace map.now file) drives.old drives.new }
-    ensures ok { OnOk result (Stand D.Drive map.now file (laid item_weight 8172 (first.now ∷ []) (byte_lists others.now)) drives.new) }
+    ensures ok { OnOk result (Stand D.Drive map.now file (blocks_of item_weight 8172 items.now) drives.new) }
     ensures err { IfErr result (StoreCause D.Drive map.now drives.old drives.new) }
 {
     let mut number = 0u32;
-    let mut page = start_page(alloc, file, number, first)?;
-    for item in others {
+    let mut page = start_page(alloc, file, number, items.get(0))?;
+    for place in 1..items.len() {
+        let item = items.get(place);
         match page.push(item) {
             Push::Pushed => {}
             Push::NoRoom => {
@@ -141,16 +141,16 @@ pub fn write_relation<D: Drive>(
 ) -> Result<(), StoreErr>
     requires map { IsMap map.now }
     requires drives { length drives.old ≡ map.now.drives }
-    requires items { All FitsAlone (byte_lists items.now) }
-    requires pages { (blocks : List (List (List ℕ))) → ArePages (byte_lists items.now) blocks → HasPages map.now.files.items file (length blocks) }
+    requires items { All FitsAlone items.now }
+    requires pages { (blocks : List (List (List ℕ))) → ArePages items.now blocks → HasPages map.now.files.items file (length blocks) }
     ensures written { AreWritten D.Drive (IsPlace map.now file) drives.old drives.new }
     ensures room { OnOk result (HaveRoom D.Drive map.now drives.old) }
-    ensures ok { (blocks : List (List (List ℕ))) → ArePages (byte_lists items.now) blocks → OnOk result (Stand D.Drive map.now file blocks drives.new) }
+    ensures ok { (blocks : List (List (List ℕ))) → ArePages items.now blocks → OnOk result (Stand D.Drive map.now file blocks drives.new) }
     ensures err { IfErr result (StoreCause D.Drive map.now drives.old drives.new) }
 {
     check_room(drives, map)?;
-    match items.items() {
-        [] => Ok(()),
-        [first, others @ ..] => write_pages(alloc, drives, map, file, first, others),
+    if items.is_empty() {
+        return Ok(());
     }
+    write_pages(alloc, drives, map, file, items)
 }

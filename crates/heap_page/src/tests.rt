@@ -1,5 +1,5 @@
 ghost use Rattle.std.specs.Prelude.{◌≡◌, ◌<◌, ◌≤◌, IfOk, All, length};
-ghost use Rattle.heap_page.specs.Blocks.{FitsAlone, byte_lists};
+ghost use Rattle.heap_page.specs.Blocks.{FitsAlone};
 ghost use Rattle.heap_page.specs.Maps.{IsMap, HasPage, HasPages};
 
 use crate::{
@@ -73,12 +73,13 @@ fn a_page_is_filled_to_its_last_byte(rt: HostRuntime) -> Result<(), Fail> {
 // Three items of which two go on a page.
 fn table(alloc: Global) -> Result<ItemList, NoMemory>
     ensures few { IfOk result (λ items. length items ≤ 1000000) }
-    ensures fit { IfOk result (λ items. All FitsAlone (byte_lists items)) }
+    ensures fit { IfOk result (All FitsAlone) }
 {
-    let first = vec![in alloc; 1u8; 4000]?;
-    let second = vec![in alloc; 2u8; 4000]?;
-    let third = vec![in alloc; 3u8; 4000]?;
-    Ok(Sequence::from_vec(vec![in alloc; first, second, third]?))
+    let mut items = ItemList::new(alloc);
+    items.push(&[1; 4000])?;
+    items.push(&[2; 4000])?;
+    items.push(&[3; 4000])?;
+    Ok(items)
 }
 
 // One file over two drives.
@@ -153,7 +154,7 @@ fn a_table_is_written_and_read_back(rt: HostRuntime) -> Result<(), Fail> {
         capacity: 0,
     };
     assert!(rt; write_relation(alloc, &mut small, &map, 0, &items) == Err(full));
-    assert_eq!(rt; pages_of(&Sequence::new(alloc)), 0);
+    assert_eq!(rt; pages_of(&ItemList::new(alloc)), 0);
     Ok(())
 }
 
