@@ -10,7 +10,7 @@ use Rattle.heap_page.specs.declared.errors.FetchErr.{FetchErr}
 use Rattle.heap_page.specs.declared.errors.FetchErr.TheVariants as fetch
 use Rattle.heap_page.specs.declared.map.FileMap.{FileMap}
 use Rattle.heap_page.specs.declared.map.PageFile.{PageFile}
-use Rattle.heap_page.specs.Blocks.{ArePages, byte_lists, joined}
+use Rattle.heap_page.specs.Blocks.{ArePages, joined}
 use Rattle.heap_page.specs.Maps.{address_of, drive_of, HasPages, IsMap}
 use Rattle.heap_page.specs.Pages.{fault_of, items_of, page_of}
 use Rattle.heap_page.specs.Stores.{AreRead, AreWritten, KeepsBut, TellsAt}
@@ -148,9 +148,9 @@ module _ {D : Type 0} (g : Ghosts D) where
 
   pub tell_rows : (map_of : FileMap) (tables : List StoredTable) (P : ℕ → ℕ → Type 0) (olds news : List D) (number : ℕ) (table : StoredTable) (columns : List Column) (rows : List (List Value)) →
       map_of.files.items ≡ files_of tables → All IsStorable tables → AreWritten g P olds news → HoldTables g map_of tables news → slice_get tables number ≡ Some table →
-      byte_lists table.items ≡ map (row_bytes columns) rows → length columns ≤ 32 → All (IsRowOf columns) rows → AllTell g olds → TellRows g map_of (file_number tables number) columns rows news
+      table.items ≡ map (row_bytes columns) rows → length columns ≤ 32 → All (IsRowOf columns) rows → AllTell g olds → TellRows g map_of (file_number tables number) columns rows news
   tell_rows map_of tables P olds news number table columns rows files each w hold at same few are_rows tell =
-      let cut = are_pages (byte_lists table.items) (all_at IsStorable tables number table each at).fit in
+      let cut = are_pages table.items (all_at IsStorable tables number table each at).fit in
       record {
         few = few;
         are_rows = are_rows;

@@ -1,11 +1,9 @@
 -- The pages and the files of tables.
 use Rattle.std.proofs.Common.{◌≡◌, ℕ, suc, ◌+◌, ◌*◌, ◌<◌, ◌≤◌, Option, Some, None, List, [], ◌∷◌, ◌++◌, length, ap, arith, IfSome}
 use Rattle.std.specs.List.{All, AllByRecursion}
-use Rattle.std.specs.Global.{Vec}
-use Rattle.std.proofs.lemmas.List.{length-map}
 use Rattle.heap_page.specs.declared.map.FileMap.{FileMap}
 use Rattle.heap_page.specs.declared.map.PageFile.{PageFile}
-use Rattle.heap_page.specs.Blocks.{item_weight, blocks_of, byte_lists, ArePages, FitsAlone}
+use Rattle.heap_page.specs.Blocks.{item_weight, blocks_of, ArePages, FitsAlone}
 use Rattle.heap_page.specs.Maps.{pages_of_all, IsMap}
 use Rattle.heap_page.proofs.Cut.{are_blocks, only_blocks, length-laid}
 use Rattle.key_index.specs.Entries.{AreEntries, items_of}
@@ -32,7 +30,7 @@ few_blocks [] = omega arith
 few_blocks (x ∷ xs) = omega (arith, length-laid item_weight 8172 (x ∷ []) xs)
 
 few_pages : (table : StoredTable) → IsStorable table → length (table_blocks table) ≤ 1000000
-few_pages table h = omega (arith, few_blocks (byte_lists table.items), length-map table.items (λ (v : Vec ℕ). v.items), h.few)
+few_pages table h = omega (arith, few_blocks table.items, h.few)
 
 pages_append : (fs gs : List PageFile) → pages_of_all (fs ++ gs) ≡ pages_of_all fs + pages_of_all gs
 pages_append [] gs = omega arith

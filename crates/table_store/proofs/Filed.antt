@@ -5,7 +5,7 @@ use Rattle.std.specs.List.{All}
 use Rattle.std.proofs.lemmas.Bool.{cases_lt}
 use Rattle.std.proofs.lemmas.List.{length-append, take_all}
 use Rattle.heap_page.specs.declared.map.PageFile.{PageFile}
-use Rattle.heap_page.specs.Blocks.{ArePages, byte_lists}
+use Rattle.heap_page.specs.Blocks.{ArePages}
 use Rattle.heap_page.specs.Maps.{HasPages}
 use Rattle.key_index.specs.Files.{index_pages}
 use Rattle.table_store.specs.declared.files.StoredIndex.{StoredIndex}
@@ -35,9 +35,9 @@ file_there (t ∷ ts) (suc number) table e = get_behind (files_of_table t) (file
 
 -- as many pages as its items need
 pub pages_there : (tables : List StoredTable) (files : List PageFile) (number file : ℕ) (table : StoredTable) (blocks : List (List (List ℕ))) →
-    files ≡ files_of tables → file ≡ file_number tables number → All IsStorable tables → slice_get tables number ≡ Some table → ArePages (byte_lists table.items) blocks → HasPages files file (length blocks)
+    files ≡ files_of tables → file ≡ file_number tables number → All IsStorable tables → slice_get tables number ≡ Some table → ArePages table.items blocks → HasPages files file (length blocks)
 pages_there tables files number file table blocks f n each at cut =
-    (heap_file table, rw (f, n) (file_there tables number table at), sym (ap length (only_pages (byte_lists table.items) blocks (all_at IsStorable tables number table each at).fit cut)))
+    (heap_file table, rw (f, n) (file_there tables number table at), sym (ap length (only_pages table.items blocks (all_at IsStorable tables number table each at).fit cut)))
 
 get_next : {X : Type 0} (xs ys zs : List X) → slice_get (xs ++ ys) (suc (length (xs ++ zs))) ≡ slice_get ys (suc (length zs))
 get_next [] ys zs = refl

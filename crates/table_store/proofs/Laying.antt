@@ -1,6 +1,5 @@
 -- Databases that are laid on drives.
 use Rattle.std.proofs.Common.{◌≡◌, ℕ, ◌+◌, ◌<◌, ◌≤◌, List, [], ◌∷◌, ◌++◌, length, Option, Some, None, Result, Ok, Err, refl, sym, ap, subst, ◌∙◌, arith, inl, inr, IfOk, IfErr, IfSome}
-use Rattle.std.specs.Global.{Vec}
 use Rattle.std.specs.Prelude.{slice_get, is_some, replicate, All}
 use Rattle.std.proofs.lemmas.List.{length-append, length-map, length-replicate, get_or-replicate}
 use Rattle.std.proofs.lemmas.List.Elements.{All-map, All-push}
@@ -10,7 +9,7 @@ use Rattle.xp_outside.specs.declared.drive.Drive.{Ghosts}
 use Rattle.heap_page.specs.declared.errors.StoreErr.{StoreErr}
 use Rattle.heap_page.specs.declared.errors.StoreErr.TheVariants.{DriveFault, DriveFull, NoMemory}
 use Rattle.heap_page.specs.declared.map.FileMap.{FileMap}
-use Rattle.heap_page.specs.Blocks.{ArePages, FitsAlone, blocks_of, byte_lists, item_weight}
+use Rattle.heap_page.specs.Blocks.{ArePages, FitsAlone, blocks_of, item_weight}
 use Rattle.heap_page.specs.Maps.{address_of, drive_of, HasPage, IsMap}
 use Rattle.heap_page.specs.Pages.{page_of}
 use Rattle.heap_page.specs.Stores.{AreRead, AreWritten, HaveRoom, IsFull, KeepsBut, StoreCause, TellsAt}
@@ -32,16 +31,16 @@ use Rattle.table_store.proofs.Filed.{all_at, index_pages_there, pages_there}
 use Rattle.table_store.proofs.Pages.{get_below, get_last, one_at, there}
 use Rattle.table_store.proofs.Stored.{room_after}
 
-pub storable : (relation : Relation) (table : Table) (items : List (Vec ℕ)) → IsTableOf relation table → byte_lists items ≡ encodings table.columns table.rows → (length items ≤ 1000000) × All FitsAlone (byte_lists items)
+pub storable : (relation : Relation) (table : Table) (items : List (List ℕ)) → IsTableOf relation table → items ≡ encodings table.columns table.rows → (length items ≤ 1000000) × All FitsAlone items
 storable relation table items h e =
-    let count : length items ≡ length table.rows = sym (length-map items (λ v. v.items)) ∙ (ap length e ∙ length-map table.rows (row_bytes table.columns)) in
+    let count : length items ≡ length table.rows = ap length e ∙ length-map table.rows (row_bytes table.columns) in
     (omega (arith, h.short.0, count), subst (All FitsAlone) (sym e) (All-map FitsAlone (row_bytes table.columns) table.rows h.short.1))
 
-pub storable_table : (items : List (Vec ℕ)) (table : StoredTable) → table.items ≡ items → (length items ≤ 1000000) × All FitsAlone (byte_lists items) → IfSome table.index (IsStorableIndex (length (blocks_of item_weight 8172 (byte_lists items)))) → IsStorable table
+pub storable_table : (items : List (List ℕ)) (table : StoredTable) → table.items ≡ items → (length items ≤ 1000000) × All FitsAlone items → IfSome table.index (IsStorableIndex (length (blocks_of item_weight 8172 items))) → IsStorable table
 storable_table items table e h k = record {
   few = omega (arith, ap length e, h.0);
-  fit = subst (λ (vs : List (Vec ℕ)). All FitsAlone (byte_lists vs)) (sym e) h.1;
-  index = subst (λ (vs : List (Vec ℕ)). IfSome table.index (IsStorableIndex (length (blocks_of item_weight 8172 (byte_lists vs))))) (sym e) k;
+  fit = subst (λ (xs : List (List ℕ)). All FitsAlone xs) (sym e) h.1;
+  index = subst (λ (xs : List (List ℕ)). IfSome table.index (IsStorableIndex (length (blocks_of item_weight 8172 xs)))) (sym e) k;
 }
 
 -- ---- the tables one after the other
@@ -174,7 +173,7 @@ part P (Some old) (Some new) size pages k z e =
 
 module _ {D : Type 0} (g : Ghosts D) (map_of : FileMap) (tables : List StoredTable) (is_map : IsMap map_of) (files : map_of.files.items ≡ files_of tables) (each : All IsStorable tables) where
   -- a page of a table is in its heap file
-  in_file : (number : ℕ) (table : StoredTable) (blocks : List (List (List ℕ))) (page : ℕ) (items : List (List ℕ)) → slice_get tables number ≡ Some table → ArePages (byte_lists table.items) blocks → slice_get blocks page ≡ Some items →
+  in_file : (number : ℕ) (table : StoredTable) (blocks : List (List (List ℕ))) (page : ℕ) (items : List (List ℕ)) → slice_get tables number ≡ Some table → ArePages table.items blocks → slice_get blocks page ≡ Some items →
       HasPage map_of.files.items (file_number tables number) page
   in_file number table blocks page items at cut here =
       let file = pages_there tables map_of.files.items number (file_number tables number) table blocks files refl each at cut in
@@ -227,7 +226,7 @@ module _ {D : Type 0} (g : Ghosts D) where
   layout_err relations db tables olds news (Err e) are h = layout_cause relations db tables olds news e are h
 
   abbrev Tells : List StoredTable → List D → List D → Result Laid StoreErr → Type 0
-  Tells tables olds news r = (number : ℕ) (table : StoredTable) (columns : List Column) (rows : List (List Value)) → slice_get tables number ≡ Some table → byte_lists table.items ≡ encodings columns rows → length columns ≤ 32 → All (IsRowOf columns) rows →
+  Tells tables olds news r = (number : ℕ) (table : StoredTable) (columns : List Column) (rows : List (List Value)) → slice_get tables number ≡ Some table → table.items ≡ encodings columns rows → length columns ≤ 32 → All (IsRowOf columns) rows →
       AllTell g olds → IfOk r (λ laid. TellRows g laid.map (file_number tables number) columns rows news)
 
   pub laid_out : (relations : List Relation) (db : List Table) (tables : List StoredTable) (olds news : List D) (r : Result Laid StoreErr) → MayStore relations db → AreStored relations db tables → All IsStorable tables → IfOk r (IsLaid tables (length olds)) →

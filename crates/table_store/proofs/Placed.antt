@@ -2,20 +2,19 @@
 use Rattle.std.proofs.Common.{◌≡◌, ℕ, zero, suc, ◌+◌, ◌*◌, ◌<◌, ◌≤◌, Bool, true, false, cond, leb, not, List, [], ◌∷◌, ◌++◌, length, get_or, drop, map, Some, inl, inr, refl, sym, ap, subst, ◌∙◌, append_assoc, arith}
 use Rattle.std.specs.Prelude.{slice_get}
 use Rattle.std.specs.List.{All, AllByRecursion, range_with_len}
-use Rattle.std.specs.Global.{Vec}
 use Rattle.std.specs.declared.cmp.Ordering.{Ordering}
 use Rattle.std.specs.declared.cmp.Ordering.TheVariants.{Less, Equal, Greater}
 use Rattle.std.specs.Ordering.{nat_cmp, ordering_then}
 use Rattle.std.specs.Cmp.{IsTotalOrder}
 use Rattle.std.proofs.lemmas.Bool.{le-leb, lt-leb, cases_lt}
 use Rattle.std.proofs.lemmas.Cmp.{nat_cmp_total, on_total, then_total}
-use Rattle.std.proofs.lemmas.List.{append-nil, drop_all, drop_more, length-append, length-map}
+use Rattle.std.proofs.lemmas.List.{append-nil, drop_all, drop_more, length-append}
 use Rattle.std.proofs.lemmas.List.Elements.{All-append, All-map, All-nil, All-weaker, All-from_recursion, filter-append, recursion_from_All}
 use Rattle.std.proofs.lemmas.List.FromFn.{length-range_with_len, get_or-range_with_len, map-range_with_len_more}
 use Rattle.std.proofs.lemmas.List.Sorted.{All-permutation, length_permutation}
 use Rattle.std.proofs.lemmas.Map.Lookups.{CmpEqualImpliesEq, exact_unsigned}
 use Rattle.lists.proofs.Arranging.{bag_fixes, occurrences-permutation}
-use Rattle.heap_page.specs.Blocks.{FitsAlone, blocks_of, byte_lists, item_weight, laid, weight_of}
+use Rattle.heap_page.specs.Blocks.{FitsAlone, blocks_of, item_weight, laid, weight_of}
 use Rattle.heap_page.proofs.Cut.{laid_end, laid_more, laid_next, weight-append}
 use Rattle.key_index.specs.Entries.{AreEntries, IsEntry, entry_cmp}
 use Rattle.rel_meaning.specs.Eval.{is_null}
@@ -162,16 +161,15 @@ all_placed column rows items done f entries le each p =
     ∙ (ap (λ (rs : List (List Value)). entries ++ entries_at column rs (puts f (drop done items))) (sym (drop_all done rows le))
     ∙ (p.told ∙ ap (entries_at column rows) (puts_are items each)))
 
--- ---- an item of a vector of items
+-- ---- one of the items
 
-pub item_there : (vs : List (Vec ℕ)) (i : ℕ) (v : Vec ℕ) (x : List ℕ) → slice_get vs i ≡ Some v → x ≡ v.items → x ≡ get_or (byte_lists vs) i x
-item_there [] i v x at e = absurd cc
-item_there (w ∷ vs) zero v x at e = let h : v ≡ w = cc in e ∙ ap (λ (u : Vec ℕ). u.items) h
-item_there (w ∷ vs) (suc i) v x at e = item_there vs i v x at e
+pub item_there : (items : List (List ℕ)) (i : ℕ) (x : List ℕ) → slice_get items i ≡ Some x → x ≡ get_or items i x
+item_there [] i x at = absurd cc
+item_there (y ∷ ys) zero x at = cc
+item_there (y ∷ ys) (suc i) x at = item_there ys i x at
 
-pub item_fits : (vs : List (Vec ℕ)) (i : ℕ) (v : Vec ℕ) (x : List ℕ) → i < length vs → slice_get vs i ≡ Some v → x ≡ v.items → All FitsAlone (byte_lists vs) → FitsAlone x
-item_fits vs i v x lt at e each =
-    subst FitsAlone (sym (item_there vs i v x at e)) (each i x (omega (arith, lt, length-map vs (λ (u : Vec ℕ). u.items))))
+pub item_fits : (items : List (List ℕ)) (i : ℕ) (x : List ℕ) → i < length items → slice_get items i ≡ Some x → All FitsAlone items → FitsAlone x
+item_fits items i x lt at each = subst FitsAlone (sym (item_there items i x at)) (each i x lt)
 
 -- ---- what each entry is
 

@@ -8,7 +8,7 @@ use Rattle.xp_outside.specs.declared.drive.Drive.{Ghosts}
 use Rattle.heap_page.specs.declared.errors.StoreErr.{StoreErr}
 use Rattle.heap_page.specs.declared.errors.StoreErr.TheVariants.{DriveFault, DriveFull, NoMemory}
 use Rattle.heap_page.specs.declared.map.FileMap.{FileMap}
-use Rattle.heap_page.specs.Blocks.{ArePages, byte_lists}
+use Rattle.heap_page.specs.Blocks.{ArePages}
 use Rattle.heap_page.specs.Maps.{address_of, drive_of, shares, HasPage, HasPages, IsMap, IsPlace}
 use Rattle.heap_page.specs.Pages.{page_of}
 use Rattle.heap_page.specs.Stores.{AreWritten, IsWritten, IsFault, IsFull, HaveRoom, KeepsBut, Stand, StoreCause, TellsAt}
@@ -114,12 +114,12 @@ module _ {D : Type 0} (g : Ghosts D) where
     both_written us bs cs index has w v =
         wrote_trans (IsPlace map_of file) (IsPlace map_of (file + 1)) (IsPlaceOf map_of file table) us bs cs heap_place (λ d x k. (1, omega (arith, two_files table index has), k)) w v
 
-    pub hold_heap : (bs : List D) → table.index ≡ None → ((blocks : List (List (List ℕ))) → ArePages (byte_lists table.items) blocks → Stand g map_of file blocks bs) → HoldTable g map_of file table bs
+    pub hold_heap : (bs : List D) → table.index ≡ None → ((blocks : List (List (List ℕ))) → ArePages table.items blocks → Stand g map_of file blocks bs) → HoldTable g map_of file table bs
     hold_heap bs none stand = record { heap = stand; index = λ index has. absurd (let k : None ≡ Some index = sym none ∙ has in cc) }
 
     pub hold_both : (bs cs : List D) (index : StoredIndex) → IsMap map_of → Apart → table.index ≡ Some index →
-        ((blocks : List (List (List ℕ))) → ArePages (byte_lists table.items) blocks → HasPages map_of.files.items file (length blocks)) → AreWritten g (IsPlace map_of (file + 1)) bs cs →
-        ((blocks : List (List (List ℕ))) → ArePages (byte_lists table.items) blocks → Stand g map_of file blocks bs) → AllStand g map_of (file + 1) (index_pages (file + 1) index.entries) cs → HoldTable g map_of file table cs
+        ((blocks : List (List (List ℕ))) → ArePages table.items blocks → HasPages map_of.files.items file (length blocks)) → AreWritten g (IsPlace map_of (file + 1)) bs cs →
+        ((blocks : List (List (List ℕ))) → ArePages table.items blocks → Stand g map_of file blocks bs) → AllStand g map_of (file + 1) (index_pages (file + 1) index.entries) cs → HoldTable g map_of file table cs
     hold_both bs cs index m apart has pages w stand now = record {
       heap = λ blocks cut page items c at_page at_c.
           let own = pages blocks cut in

@@ -7,7 +7,6 @@ use Rattle.heap_page.specs.declared.errors.FetchErr.TheVariants as fetch
 use Rattle.heap_page.specs.declared.errors.StoreErr.{StoreErr}
 use Rattle.heap_page.specs.declared.errors.StoreErr.TheVariants as store
 use Rattle.heap_page.specs.declared.map.FileMap.{FileMap}
-use Rattle.heap_page.specs.Blocks.{byte_lists}
 use Rattle.heap_page.specs.Maps.{IsMap, HasPage}
 use Rattle.heap_page.specs.Stores.{HaveRoom, IsFault, IsFull}
 use Rattle.rows.specs.declared.plain.Column.{Column}
@@ -52,7 +51,7 @@ IsIndexed (Some column) table blocks (Some index) = (index.key_type ≡ type_at 
 
 -- the items are the encodings of the table's rows, and there is an index exactly where the relation has one
 pub record IsStored (relation : Relation) (table : Table) (stored : StoredTable) : Type 0 where
-  pub items : byte_lists stored.items ≡ encodings table.columns table.rows
+  pub items : stored.items ≡ encodings table.columns table.rows
   pub index : IsIndexed relation.index table (table_blocks stored) stored.index
 
 -- the same of each table

@@ -3,7 +3,7 @@ use Rattle.std.specs.Prelude.{ℕ, ◌+◌, ◌≤◌, List, [], ◌∷◌, leng
 use Rattle.std.specs.List.{flat_map}
 use Rattle.heap_page.specs.declared.head.FileKind.TheVariants.{Heap, Index}
 use Rattle.heap_page.specs.declared.map.PageFile.{PageFile}
-use Rattle.heap_page.specs.Blocks.{FitsAlone, blocks_of, byte_lists, item_weight}
+use Rattle.heap_page.specs.Blocks.{FitsAlone, blocks_of, item_weight}
 use Rattle.key_index.specs.Entries.{AreEntries}
 use Rattle.key_index.specs.Files.{index_of, index_pages}
 use Rattle.rows.specs.declared.plain.Column.{Column}
@@ -19,7 +19,7 @@ encodings columns rows = map (row_bytes columns) rows
 
 -- the pages of a table, each as its items
 abbrev pub table_blocks : StoredTable → List (List (List ℕ))
-table_blocks table = blocks_of item_weight 8172 (byte_lists table.items)
+table_blocks table = blocks_of item_weight 8172 table.items
 
 -- entries of an index over a heap file with so many pages
 abbrev pub IsStorableIndex : ℕ → StoredIndex → Type 0
@@ -28,7 +28,7 @@ IsStorableIndex heap_pages index = AreEntries index.key_type heap_pages index.en
 -- at most 1,000,000 items, each of which fits an empty page, and an index only over their pages
 pub record IsStorable (table : StoredTable) : Type 0 where
   pub few : length table.items ≤ 1000000
-  pub fit : All FitsAlone (byte_lists table.items)
+  pub fit : All FitsAlone table.items
   pub index : IfSome table.index (IsStorableIndex (length (table_blocks table)))
 
 abbrev pub heap_file : StoredTable → PageFile

@@ -2,7 +2,7 @@
 use Rattle.std.specs.Prelude.{◌≡◌, ℕ, ◌+◌, ◌<◌, List, length, replicate, slice_get, Some}
 use Rattle.xp_outside.specs.declared.drive.Drive.{Ghosts}
 use Rattle.heap_page.specs.declared.map.FileMap.{FileMap}
-use Rattle.heap_page.specs.Blocks.{ArePages, byte_lists}
+use Rattle.heap_page.specs.Blocks.{ArePages}
 use Rattle.heap_page.specs.Maps.{IsPlace, address_of, drive_of}
 use Rattle.heap_page.specs.Pages.{page_of}
 use Rattle.heap_page.specs.Stores.{Stand}
@@ -23,7 +23,7 @@ IsPlaceOf map_of file table d address = (behind : ℕ) × (behind < length (file
 module _ {D : Type 0} (g : Ghosts D) where
   -- The pages of a table stand at the places of its heap file, which has this number, and those of its index at the places of the next file.
   pub record HoldTable (map_of : FileMap) (file : ℕ) (table : StoredTable) (drives : List D) : Type 0 where
-    pub heap : (blocks : List (List (List ℕ))) → ArePages (byte_lists table.items) blocks → Stand g map_of file blocks drives
+    pub heap : (blocks : List (List (List ℕ))) → ArePages table.items blocks → Stand g map_of file blocks drives
     pub index : (index : StoredIndex) → table.index ≡ Some index → AllStand g map_of (file + 1) (index_pages (file + 1) index.entries) drives
 
   -- the same of each table
@@ -34,7 +34,7 @@ module _ {D : Type 0} (g : Ghosts D) where
   -- A drive's part of the tables: their pages and those of their indexes at their places, and zeros in every other page.
   pub record HoldsPart (map_of : FileMap) (tables : List StoredTable) (d : ℕ) (drive : D) (pages : List (List ℕ)) : Type 0 where
     pub whole : length pages ≡ g.size drive
-    pub stored : (number : ℕ) (table : StoredTable) (blocks : List (List (List ℕ))) (page : ℕ) (items : List (List ℕ)) → slice_get tables number ≡ Some table → ArePages (byte_lists table.items) blocks →
+    pub stored : (number : ℕ) (table : StoredTable) (blocks : List (List (List ℕ))) (page : ℕ) (items : List (List ℕ)) → slice_get tables number ≡ Some table → ArePages table.items blocks →
         slice_get blocks page ≡ Some items → drive_of map_of page ≡ d → slice_get pages (address_of map_of (file_number tables number) page) ≡ Some (page_of (file_number tables number) page items)
     pub indexes : (number : ℕ) (table : StoredTable) (index : StoredIndex) (page : ℕ) (bytes : List ℕ) → slice_get tables number ≡ Some table → table.index ≡ Some index →
         slice_get (index_pages (file_number tables number + 1) index.entries) page ≡ Some bytes → drive_of map_of page ≡ d → slice_get pages (address_of map_of (file_number tables number + 1) page) ≡ Some bytes

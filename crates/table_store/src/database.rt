@@ -1,6 +1,6 @@
 //! Databases on drives.
 ghost use Rattle.std.specs.Prelude.{◌≡◌, ◌<◌, ◌≤◌, ◌^◌, ℕ, List, Some, Option, IfOk, IfErr, IfSome, All, length, slice_get};
-ghost use Rattle.heap_page.specs.Blocks.{FitsAlone, blocks_of, byte_lists, item_weight};
+ghost use Rattle.heap_page.specs.Blocks.{FitsAlone, blocks_of, item_weight};
 ghost use Rattle.heap_page.specs.Stores.{HaveRoom};
 ghost use Rattle.rows.specs.declared.plain.Column.{Column};
 ghost use Rattle.rows.specs.declared.plain.KeyIndex.{KeyIndex};
@@ -38,10 +38,10 @@ fn stored_index(
     items: &ItemList,
 ) -> Result<Option<StoredIndex>, NoMemory>
     requires table { IsTableOf relation.now table.now }
-    requires items { byte_lists items.now ≡ encodings table.now.columns table.now.rows }
-    requires storable { (length items.now ≤ 1000000) × All FitsAlone (byte_lists items.now) }
-    ensures index { IfOk result (IsIndexed relation.now.index table.now (blocks_of item_weight 8172 (byte_lists items.now))) }
-    ensures storable { IfOk result (λ index. IfSome index (IsStorableIndex (length (blocks_of item_weight 8172 (byte_lists items.now))))) }
+    requires items { items.now ≡ encodings table.now.columns table.now.rows }
+    requires storable { (length items.now ≤ 1000000) × All FitsAlone items.now }
+    ensures index { IfOk result (IsIndexed relation.now.index table.now (blocks_of item_weight 8172 items.now)) }
+    ensures storable { IfOk result (λ index. IfSome index (IsStorableIndex (length (blocks_of item_weight 8172 items.now)))) }
 {
     match relation.index {
         Some(column) => {
@@ -120,7 +120,7 @@ fn lay<D: Drive>(alloc: Global, drives: &mut [D], tables: &[StoredTable]) -> Res
     ensures laid { IfOk result (IsLaid tables.now (length drives.old)) }
     ensures room { IfOk result (λ laid. HaveRoom D.Drive laid.map drives.new) }
     ensures image { AllFresh D.Drive drives.old → IfOk result (λ laid. HoldImage D.Drive laid.map tables.now drives.new) }
-    ensures tell { (number : ℕ) (table : StoredTable) (columns : List Column) (rows : List (List Value)) → slice_get tables.now number ≡ Some table → byte_lists table.items ≡ encodings columns rows → length columns ≤ 32 → All (IsRowOf columns) rows → AllTell D.Drive drives.old → IfOk result (λ laid. TellRows D.Drive laid.map (file_number tables.now number) columns rows drives.new) }
+    ensures tell { (number : ℕ) (table : StoredTable) (columns : List Column) (rows : List (List Value)) → slice_get tables.now number ≡ Some table → table.items ≡ encodings columns rows → length columns ≤ 32 → All (IsRowOf columns) rows → AllTell D.Drive drives.old → IfOk result (λ laid. TellRows D.Drive laid.map (file_number tables.now number) columns rows drives.new) }
     ensures err { IfErr result (LayCause D.Drive tables.now drives.old drives.new) }
 {
     let map = file_map(alloc, tables, drives.len() as u32)?;

@@ -2,7 +2,7 @@
 ghost use Rattle.std.specs.Prelude.{◌≡◌, ◌<◌, ◌≤◌, ◌++◌, [], ◌∷◌, IfOk, OnOk, All, length};
 ghost use Rattle.std.specs.List.Sorted.{IsPermutation};
 ghost use Rattle.lists.specs.Arranged.{Ascends};
-ghost use Rattle.heap_page.specs.Blocks.{FitsAlone, blocks_of, byte_lists, item_weight};
+ghost use Rattle.heap_page.specs.Blocks.{FitsAlone, blocks_of, item_weight};
 ghost use Rattle.key_index.specs.Entries.{AreEntries, entry_cmp};
 ghost use Rattle.rows.specs.RowBytes.{IsRowOf};
 ghost use Rattle.rows.specs.Values.{column_of};
@@ -90,8 +90,8 @@ fn placed_entries(
 ) -> Result<Vec<KeyEntry>, NoMemory>
     requires count { length rows.now ≡ length items.now }
     requires few { length items.now ≤ 1000000 }
-    requires items { All FitsAlone (byte_lists items.now) }
-    ensures { IfOk result (λ entries. entries.items ≡ placed column rows.now (blocks_of item_weight 8172 (byte_lists items.now))) }
+    requires items { All FitsAlone items.now }
+    ensures { IfOk result (λ entries. entries.items ≡ placed column rows.now (blocks_of item_weight 8172 items.now)) }
 {
     let mut entries = Vec::new(alloc);
     let mut filling = Filling {
@@ -129,10 +129,10 @@ pub(crate) fn entries_of(
 ) -> Result<KeyEntryList, NoMemory>
     requires rows { All (IsRowOf columns.now) rows.now }
     requires column { column < length columns.now }
-    requires items { byte_lists items.now ≡ encodings columns.now rows.now }
-    requires storable { (length items.now ≤ 1000000) × All FitsAlone (byte_lists items.now) }
-    ensures entries { IfOk result (IsIndexOf column rows.now (blocks_of item_weight 8172 (byte_lists items.now))) }
-    ensures are { IfOk result (AreEntries (type_at columns.now column) (length (blocks_of item_weight 8172 (byte_lists items.now)))) }
+    requires items { items.now ≡ encodings columns.now rows.now }
+    requires storable { (length items.now ≤ 1000000) × All FitsAlone items.now }
+    ensures entries { IfOk result (IsIndexOf column rows.now (blocks_of item_weight 8172 items.now)) }
+    ensures are { IfOk result (AreEntries (type_at columns.now column) (length (blocks_of item_weight 8172 items.now))) }
 {
     let mut entries = placed_entries(alloc, rows, column, items)?;
     sort_entries(&mut entries)?;

@@ -1,15 +1,13 @@
 //! The items of a table, and the files of tables.
-ghost use Rattle.std.specs.Prelude.{◌≡◌, ◌<◌, ◌≤◌, ◌++◌, IfOk, OnOk, length, All};
-ghost use Rattle.heap_page.specs.Blocks.{byte_lists};
+ghost use Rattle.std.specs.Prelude.{◌≡◌, ◌<◌, ◌≤◌, ◌++◌, [], ◌∷◌, IfOk, OnOk, length, All};
 ghost use Rattle.heap_page.specs.Maps.{IsMap};
 ghost use Rattle.key_index.specs.Files.{index_pages};
-ghost use Rattle.rows.specs.RowBytes.{IsRowOf};
+ghost use Rattle.rows.specs.RowBytes.{IsRowOf, row_bytes};
 ghost use Rattle.table_store.specs.Files.{IsStorable, IsStorableIndex, encodings, file_number, files_of, files_of_table, numbers_in, table_blocks};
 
 use heap_page::{FileKind, FileMap, ItemList, PageFile, pages_of};
 use key_index::{index_laws, plan_index};
-use lists::Sequence;
-use rows::{ColType, ColumnList, KeyEntryList, KeyIndex, Rows, encode_row};
+use rows::{ColType, ColumnList, KeyEntryList, KeyIndex, Row, Rows, put_row};
 use std::alloc::Global;
 use xp_outside::NoMemory;
 
@@ -27,17 +25,34 @@ pub struct StoredTable {
     pub index: Option<StoredIndex>,
 }
 
+// Puts the bytes of a row behind the other items. They are made in `scratch`, whatever it held.
+fn push_row(
+    items: &mut ItemList,
+    scratch: &mut Vec<u8>,
+    row: &Row,
+    columns: &ColumnList,
+) -> Result<(), NoMemory>
+    requires few { length columns.now ≤ 32 }
+    requires row { IsRowOf columns.now row.now }
+    ensures { OnOk result (items.new ≡ items.old ++ row_bytes columns.now row.now ∷ []) }
+{
+    scratch.clear();
+    put_row(scratch, row, columns)?;
+    items.push(scratch)
+}
+
 /// The bytes of each row, in order. The rows are of the columns, at most 32.
 pub fn items_of(alloc: Global, rows: &Rows, columns: &ColumnList) -> Result<ItemList, NoMemory>
     requires few { length columns.now ≤ 32 }
     requires rows { All (IsRowOf columns.now) rows.now }
-    ensures { IfOk result (λ items. byte_lists items ≡ encodings columns.now rows.now) }
+    ensures { IfOk result (λ items. items ≡ encodings columns.now rows.now) }
 {
-    let mut items = Vec::with_capacity(alloc, rows.len())?;
+    let mut items = ItemList::new(alloc);
+    let mut scratch = Vec::new(alloc);
     for row in rows.items() {
-        items.push(encode_row(alloc, row, columns)?)?;
+        push_row(&mut items, &mut scratch, row, columns)?;
     }
-    Ok(Sequence::from_vec(items))
+    Ok(items)
 }
 
 // How many pages a table's heap file has.

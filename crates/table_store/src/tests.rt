@@ -1,5 +1,5 @@
-ghost use Rattle.std.specs.Prelude.{◌≡◌, ◌<◌, ◌≤◌, IfOk, All, length, true};
-ghost use Rattle.heap_page.specs.Blocks.{FitsAlone, byte_lists};
+ghost use Rattle.std.specs.Prelude.{◌≡◌, ◌<◌, ◌≤◌, ◌+◌, IfOk, OnOk, All, length, true};
+ghost use Rattle.heap_page.specs.Blocks.{FitsAlone};
 ghost use Rattle.rows.specs.RowBytes.{IsRowOf};
 ghost use Rattle.table_store.specs.Files.{IsStorable};
 
@@ -34,19 +34,22 @@ fn columns(alloc: Global) -> Result<ColumnList, NoMemory>
     Ok(Sequence::from_vec(vec![in alloc; name, dept, sal]?))
 }
 
-fn item(alloc: Global, bytes: &[u8]) -> Result<Vec<u8>, NoMemory>
-    ensures { IfOk result (λ item. FitsAlone item.items) }
+// Adds an item, where it fits an empty page.
+fn add(items: &mut ItemList, bytes: &[u8]) -> Result<(), NoMemory>
+    requires { All FitsAlone items.old }
+    ensures fit { OnOk result (All FitsAlone items.new) }
+    ensures count { OnOk result (length items.new ≤ length items.old + 1) }
 {
     if bytes.len() <= 8168 {
-        Vec::from_slice(alloc, bytes)
+        items.push(bytes)
     } else {
-        Ok(Vec::new(alloc))
+        Ok(())
     }
 }
 
 fn plain_table(items: ItemList) -> StoredTable
     requires few { length items ≤ 1000000 }
-    requires fit { All FitsAlone (byte_lists items) }
+    requires fit { All FitsAlone items }
     ensures { IsStorable result }
 {
     StoredTable { items, index: None }
@@ -55,7 +58,7 @@ fn plain_table(items: ItemList) -> StoredTable
 // A table of three rows with an index on their numbers, 1,200, 900 and 1,500.
 fn indexed_table(alloc: Global, items: ItemList) -> Result<StoredTable, NoMemory>
     requires few { length items ≤ 1000000 }
-    requires fit { All FitsAlone (byte_lists items) }
+    requires fit { All FitsAlone items }
     ensures { IfOk result IsStorable }
 {
     let mut entries = Vec::with_capacity(alloc, 3)?;
@@ -83,13 +86,15 @@ fn tables(alloc: Global) -> Result<Vec<StoredTable>, NoMemory>
     ensures few { IfOk result (λ tables. length tables.items ≤ 16) }
     ensures each { IfOk result (λ tables. All IsStorable tables.items) }
 {
-    let ann = item(alloc, b"\x00\x03Ann\x00\x03toy\x00\x00\x04\xb0")?;
-    let bob = item(alloc, b"\x00\x03Bob\x00\x03toy\x00\x00\x03\x84")?;
-    let cid = item(alloc, b"\x00\x03Cid\x00\x04shoe\x00\x00\x05\xdc")?;
-    let dan = item(alloc, b"\x00\x03Dan\x00\x00\xff\xff\xff\xff")?;
-    let first = indexed_table(alloc, Sequence::from_vec(vec![in alloc; ann, bob, cid]?))?;
-    let second = plain_table(Sequence::new(alloc));
-    let third = plain_table(Sequence::from_vec(vec![in alloc; dan]?));
+    let mut three = ItemList::new(alloc);
+    add(&mut three, b"\x00\x03Ann\x00\x03toy\x00\x00\x04\xb0")?;
+    add(&mut three, b"\x00\x03Bob\x00\x03toy\x00\x00\x03\x84")?;
+    add(&mut three, b"\x00\x03Cid\x00\x04shoe\x00\x00\x05\xdc")?;
+    let mut one = ItemList::new(alloc);
+    add(&mut one, b"\x00\x03Dan\x00\x00\xff\xff\xff\xff")?;
+    let first = indexed_table(alloc, three)?;
+    let second = plain_table(ItemList::new(alloc));
+    let third = plain_table(one);
     Ok(vec![in alloc; first, second, third]?)
 }
 
@@ -127,6 +132,18 @@ fn two_drives(alloc: Global, pages: u32) -> Result<Vec<MemDrive>, NoMemory>
     Ok(vec![in alloc; first, second]?)
 }
 
+fn are_same(left: &ItemList, right: &ItemList) -> bool {
+    if left.len() != right.len() {
+        return false;
+    }
+    for number in 0..left.len() {
+        if left.get(number) != right.get(number) {
+            return false;
+        }
+    }
+    true
+}
+
 #[test]
 fn tables_are_written_and_read_back(rt: HostRuntime) -> Result<(), Fail> {
     let alloc = rt.alloc();
@@ -138,7 +155,7 @@ fn tables_are_written_and_read_back(rt: HostRuntime) -> Result<(), Fail> {
         let mut drives = two_drives(alloc, 3)?;
         let read = write_and_read(alloc, &mut drives, 2, &tables, file);
         let items = &tables[table as usize].items;
-        assert!(rt; matches!(&read, Ok(Ok(found)) if found.items() == items.items()));
+        assert!(rt; matches!(&read, Ok(Ok(found)) if are_same(found, items)));
     }
     let mut small = two_drives(alloc, 2)?;
     let full = StoreErr::DriveFull {
@@ -191,7 +208,7 @@ fn a_changed_bit_breaks_rule_9_or_changes_a_value(rt: HostRuntime) {
     let raised = b"\x00\x03Ann\x00\x03toy\x00\x00\x04\xb1";
     let changed = read_changed(rt.alloc(), 8191);
     assert!(rt;
-        matches!(&changed, Ok(Ok(items)) if items.len() == 3 && items.get(0).as_slice() == raised.as_slice())
+        matches!(&changed, Ok(Ok(items)) if items.len() == 3 && items.get(0) == raised.as_slice())
     );
 }
 
@@ -238,10 +255,10 @@ fn wide_rows(alloc: Global, keys: &[Option<u8>], columns: &ColumnList) -> Result
 
 // Whether each item fits an empty page.
 fn all_fit(items: &ItemList) -> bool
-    ensures { result ≡ true → All FitsAlone (byte_lists items.now) }
+    ensures { result ≡ true → All FitsAlone items.now }
 {
-    for item in items.items() {
-        if item.len() > 8168 {
+    for number in 0..items.len() {
+        if items.get(number).len() > 8168 {
             return false;
         }
     }

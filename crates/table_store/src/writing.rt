@@ -1,6 +1,6 @@
 //! Writing tables.
 ghost use Rattle.std.specs.Prelude.{◌≡◌, ◌+◌, ◌<◌, ◌≤◌, ◌^◌, ℕ, List, Some, OnOk, IfErr, length, slice_get, All};
-ghost use Rattle.heap_page.specs.Blocks.{ArePages, byte_lists};
+ghost use Rattle.heap_page.specs.Blocks.{ArePages};
 ghost use Rattle.heap_page.specs.Maps.{HasPages, IsMap, IsPlace};
 ghost use Rattle.heap_page.specs.Stores.{AreWritten, HaveRoom, StoreCause};
 ghost use Rattle.key_index.specs.Files.{index_pages};
@@ -55,7 +55,7 @@ fn write_table<D: Drive>(
     requires drives { length drives.old ≡ map.now.drives }
     requires table { IsStorable table.now }
     requires small { file + 1 < 2 ^ 32 }
-    requires heap { (blocks : List (List (List ℕ))) → ArePages (byte_lists table.now.items) blocks → HasPages map.now.files.items file (length blocks) }
+    requires heap { (blocks : List (List (List ℕ))) → ArePages table.now.items blocks → HasPages map.now.files.items file (length blocks) }
     requires index { (index : StoredIndex) → table.now.index ≡ Some index → HasPages map.now.files.items (file + 1) (length (index_pages (file + 1) index.entries)) }
     ensures written { AreWritten D.Drive (IsPlaceOf map.now file table.now) drives.old drives.new }
     ensures room { OnOk result (HaveRoom D.Drive map.now drives.old) }
@@ -94,7 +94,7 @@ pub fn write_tables<D: Drive>(
     ensures room { OnOk result (HaveRoom D.Drive map.now drives.old) }
     ensures room_left { OnOk result (HaveRoom D.Drive map.now drives.new) }
     ensures ok { OnOk result (HoldTables D.Drive map.now tables.now drives.new) }
-    ensures rows { (number : ℕ) (table : StoredTable) (columns : List Column) (rows : List (List Value)) → slice_get tables.now number ≡ Some table → byte_lists table.items ≡ encodings columns rows → length columns ≤ 32 → All (IsRowOf columns) rows → AllTell D.Drive drives.old → OnOk result (TellRows D.Drive map.now (file_number tables.now number) columns rows drives.new) }
+    ensures rows { (number : ℕ) (table : StoredTable) (columns : List Column) (rows : List (List Value)) → slice_get tables.now number ≡ Some table → table.items ≡ encodings columns rows → length columns ≤ 32 → All (IsRowOf columns) rows → AllTell D.Drive drives.old → OnOk result (TellRows D.Drive map.now (file_number tables.now number) columns rows drives.new) }
     ensures err { IfErr result (StoreCause D.Drive map.now drives.old drives.new) }
 {
     place_laws();
