@@ -1,12 +1,11 @@
 //! A heap file of rows that are one number each.
 ghost use Rattle.std.specs.Prelude.{◌≡◌, ◌≤◌, ◌∷◌, [], IfOk, All, length};
-ghost use Rattle.heap_page.specs.Blocks.{FitsAlone, byte_lists};
+ghost use Rattle.heap_page.specs.Blocks.{FitsAlone};
 ghost use Rattle.pool_bench.specs.Laid.{IsHeapFile};
 
 use crate::disk::{drives_for, one_file};
 use crate::errors::BenchErr;
 use heap_page::{FileKind, FileMap, ItemList, pages_of, write_relation};
-use lists::Sequence;
 use std::alloc::Global;
 use xp_outside::{MemDrive, NoMemory};
 
@@ -22,13 +21,13 @@ pub struct HeapFile {
 #[tactic(auto, using(crate::proofs::Items::none, crate::proofs::Items::one_more))]
 fn rows_of_numbers(alloc: Global, rows: u32) -> Result<ItemList, NoMemory>
     ensures count { IfOk result (λ items. length items ≡ rows) }
-    ensures fit { IfOk result (λ items. All FitsAlone (byte_lists items)) }
+    ensures fit { IfOk result (All FitsAlone) }
 {
-    let mut items = Vec::with_capacity(alloc, rows as usize)?;
+    let mut items = ItemList::new(alloc);
     for number in 0..rows {
-        items.push(Vec::from_slice(alloc, &number.to_be_bytes())?)?;
+        items.push(&number.to_be_bytes())?;
     }
-    Ok(Sequence::from_vec(items))
+    Ok(items)
 }
 
 /// Writes the heap file of so many rows. It answers `TooMany` where there are more than 1,000,000.

@@ -1,10 +1,10 @@
 use Rattle.std.proofs.Common.{◌≡◌, length}
 use Rattle.std.specs.List.{All}
-use Rattle.heap_page.specs.Blocks.{FitsAlone, byte_lists}
+use Rattle.heap_page.specs.Blocks.{FitsAlone}
 use Rattle.pool_bench.proofs.heap.rows_of_numbers.Given as goal
 
 abbrev pub invariant-loop-number : goal.invariant-loop-number
 invariant-loop-number l = record {
-  count : length l.items.items ≡ l.number;
-  fit : All FitsAlone (byte_lists l.items.items);
+  count : length l.items ≡ l.number;
+  fit : All FitsAlone l.items;
 }
