@@ -13,7 +13,7 @@ ghost use Rattle.table_store.specs.Images.{HoldImage};
 ghost use Rattle.table_store.specs.Readings.{AllTell, TellRows};
 
 use crate::entries::entries_of;
-use crate::files::index_numbers;
+use crate::files::{index_numbers, items_from};
 use crate::{StoredIndex, StoredTable, file_map, heap_file_number, items_of, write_tables};
 use heap_page::{FileMap, ItemList, StoreErr};
 use rel_meaning::{Database, Table};
@@ -30,38 +30,47 @@ pub struct Laid {
     pub indexes: Vec<Option<KeyIndex>>,
 }
 
-// The index of a table whose rows have these bytes.
-fn stored_index(
+// A table that has an index on a column, as it is stored.
+fn indexed_table(
     alloc: Global,
     relation: &Relation,
     table: &Table,
-    items: &ItemList,
-) -> Result<Option<StoredIndex>, NoMemory>
+    column: u32,
+) -> Result<StoredTable, NoMemory>
     requires table { IsTableOf relation.now table.now }
-    requires items { items.now ≡ encodings table.now.columns table.now.rows }
-    requires storable { (length items.now ≤ 1000000) × All FitsAlone items.now }
-    ensures index { IfOk result (IsIndexed relation.now.index table.now (blocks_of item_weight 8172 items.now)) }
-    ensures storable { IfOk result (λ index. IfSome index (IsStorableIndex (length (blocks_of item_weight 8172 items.now)))) }
-{
-    match relation.index {
-        Some(column) => {
-            let key_type = table.columns.get(column as usize).col_type;
-            let entries = entries_of(alloc, &table.rows, &table.columns, column, items)?;
-            Ok(Some(StoredIndex { key_type, entries }))
-        }
-        None => Ok(None),
-    }
-}
-
-// A table as it is stored.
-fn stored_table(alloc: Global, relation: &Relation, table: &Table) -> Result<StoredTable, NoMemory>
-    requires { IsTableOf relation.now table.now }
+    requires column { relation.now.index ≡ Some column }
     ensures stored { IfOk result (IsStored relation.now table.now) }
     ensures storable { IfOk result IsStorable }
 {
     let items = items_of(alloc, &table.rows, &table.columns)?;
-    let index = stored_index(alloc, relation, table, &items)?;
+    let key_type = table.columns.get(column as usize).col_type;
+    let entries = entries_of(alloc, &table.rows, &table.columns, column, &items)?;
+    let index = Some(StoredIndex { key_type, entries });
     Ok(StoredTable { items, index })
+}
+
+// A table that has no index, as it is stored. Each row is given up as soon as its bytes are made.
+fn plain_table(alloc: Global, relation: &Relation, table: Table) -> Result<StoredTable, NoMemory>
+    requires table { IsTableOf relation.now table }
+    requires none { relation.now.index ≡ None }
+    ensures stored { IfOk result (IsStored relation.now table) }
+    ensures storable { IfOk result IsStorable }
+{
+    let Table { columns, rows } = table;
+    let items = items_from(alloc, rows, &columns)?;
+    Ok(StoredTable { items, index: None })
+}
+
+// A table as it is stored. The table itself is given up.
+fn stored_table(alloc: Global, relation: &Relation, table: Table) -> Result<StoredTable, NoMemory>
+    requires { IsTableOf relation.now table }
+    ensures stored { IfOk result (IsStored relation.now table) }
+    ensures storable { IfOk result IsStorable }
+{
+    match relation.index {
+        Some(column) => indexed_table(alloc, relation, &table, column),
+        None => plain_table(alloc, relation, table),
+    }
 }
 
 // The tables of a database as they are stored. The database itself is given up.
@@ -75,8 +84,9 @@ fn stored_tables(
     ensures storable { IfOk result (λ tables. All IsStorable tables.items) }
 {
     let mut tables = Vec::new(alloc);
-    for (place, relation) in catalog.items().iter().enumerate() {
-        tables.push(stored_table(alloc, relation, db.get(place))?)?;
+    for table in db.into_vec() {
+        let relation = catalog.get(tables.len());
+        tables.push(stored_table(alloc, relation, table)?)?;
     }
     Ok(tables)
 }
