@@ -1,6 +1,5 @@
-use Rattle.std.proofs.Common.{◌≡◌, ℕ, ◌+◌, List, [], ◌∷◌, drop, sym, ap, ◌∙◌, arith}
+use Rattle.std.proofs.Common.{◌+◌, drop, arith}
 use Rattle.std.proofs.lemmas.Result.{err_from_is_err_and, on_ok_weaker}
-use Rattle.heap_page.specs.Pages.{page_of}
 use Rattle.heap_page.specs.Stores.{StoreCause}
 use Rattle.heap_page.specs.Maps.{IsPlace}
 use Rattle.heap_page.proofs.Counted.{fit_here}

@@ -1,4 +1,4 @@
-use Rattle.std.proofs.Common.{◌≡◌, ◌<◌, ◌≤◌, ℕ, List, length, get_or, ap, arith}
+use Rattle.std.proofs.Common.{◌<◌, ℕ, List, length, get_or, ap, arith}
 use Rattle.heap_page.proofs.Itemised.{length-pieces, piece, piece_within}
 use Rattle.heap_page.proofs.items.ItemList.get.Goals as goal
 
