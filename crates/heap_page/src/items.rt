@@ -1,5 +1,5 @@
 //! The bytes of rows that are to be laid in pages.
-ghost use Rattle.std.specs.Prelude.{◌≡◌, [], ◌∷◌, ◌++◌, ◌<◌, ◌≤◌, length, slice_get, Some, OnOk, OnErr, ◌==◌};
+ghost use Rattle.std.specs.Prelude.{◌≡◌, [], ◌∷◌, ◌++◌, ◌<◌, length, slice_get, Some, OnOk, OnErr, ◌==◌};
 ghost use Rattle.heap_page.specs.Items.{start_of};
 
 use std::alloc::Global;

@@ -1,21 +1,20 @@
 //! Databases on drives.
-ghost use Rattle.std.specs.Prelude.{◌≡◌, ◌<◌, ◌≤◌, ◌^◌, ℕ, List, Some, Option, IfOk, IfErr, IfSome, All, length, slice_get};
-ghost use Rattle.heap_page.specs.Blocks.{FitsAlone, blocks_of, item_weight};
+ghost use Rattle.std.specs.Prelude.{◌≡◌, ◌<◌, ◌≤◌, ◌^◌, ℕ, List, Some, None, Option, IfOk, IfErr, All, length, slice_get};
 ghost use Rattle.heap_page.specs.Stores.{HaveRoom};
 ghost use Rattle.rows.specs.declared.plain.Column.{Column};
 ghost use Rattle.rows.specs.declared.plain.KeyIndex.{KeyIndex};
 ghost use Rattle.rows.specs.declared.value.Value.{Value};
 ghost use Rattle.rows.specs.RowBytes.{IsRowOf};
 ghost use Rattle.table_store.specs.declared.files.StoredTable.{StoredTable};
-ghost use Rattle.table_store.specs.Databases.{AllFresh, AreKept, AreStored, IsIndexed, IsLaid, IsLaidOut, IsStored, IsTableOf, LayCause, LayoutCause, MayStore};
-ghost use Rattle.table_store.specs.Files.{IsStorable, IsStorableIndex, encodings, file_number, files_of, index_numbers};
+ghost use Rattle.table_store.specs.Databases.{AllFresh, AreKept, AreStored, IsLaid, IsLaidOut, IsStored, IsTableOf, LayCause, LayoutCause, MayStore};
+ghost use Rattle.table_store.specs.Files.{IsStorable, encodings, file_number, files_of, index_numbers};
 ghost use Rattle.table_store.specs.Images.{HoldImage};
 ghost use Rattle.table_store.specs.Readings.{AllTell, TellRows};
 
 use crate::entries::entries_of;
 use crate::files::{index_numbers, items_from};
 use crate::{StoredIndex, StoredTable, file_map, heap_file_number, items_of, write_tables};
-use heap_page::{FileMap, ItemList, StoreErr};
+use heap_page::{FileMap, StoreErr};
 use rel_meaning::{Database, Table};
 use rows::{Catalog, KeyIndex, Relation};
 use std::alloc::Global;
