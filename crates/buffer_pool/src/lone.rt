@@ -135,10 +135,11 @@ impl<D: Drive> LonePool<D> {
         })
     }
 
-    /// The drives, in order. Each has the number of pages that it had when the pool was made, tells what it told then, or
-    /// nothing where it told nothing, and its count hasn't fallen.
+    /// The drives, in order, as the pool has them. Each has the number of pages that it had when the pool was made, tells
+    /// what it told then, or nothing where it told nothing, and its count hasn't fallen.
     pub fn into_drives(self) -> Vec<D>
-        ensures { AreRead D.Drive (drives_of self.mounted) result.items }
+        ensures read { AreRead D.Drive (drives_of self.mounted) result.items }
+        ensures drives { result.items ≡ drives_in self.shards.items }
     {
         let LonePool {
             shards,
