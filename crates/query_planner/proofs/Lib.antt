@@ -1,0 +1,12 @@
+mod Usable
+mod Standing
+mod Telling
+mod Causing
+mod Counted
+mod SoFar
+pub mod Stored
+mod BoundsSet
+mod Ranks
+mod EntryRows
+mod PlansMean
+mod ReadingExamples

@@ -1,0 +1,39 @@
+use Rattle.std.proofs.Common.{◌≡◌, ◌+◌, ◌∙◌, ℕ, [], ◌∷◌, ◌++◌, ap, arith, length, length-append, IfSome}
+use Rattle.std.proofs.lemmas.List.Elements.{All-push}
+use Rattle.seq_optimizer.specs.Costs.{IsInterval}
+use Rattle.seq_optimizer.specs.declared.stats.VarStats.{VarStats}
+use Rattle.std.proofs.lemmas.Result.{err_from_is_err_and}
+use Rattle.rel_meaning.specs.Expression.{question_of}
+use Rattle.query_planner.proofs.SoFar.{all_counted, one_counted, var_there}
+use Rattle.query_planner.proofs.counting.all_stats.Goals as goal
+
+pub returns-in_err-stats_of-clause-told : goal.returns-in_err-stats_of-clause-told
+returns-in_err-stats_of-clause-told g c = λ tables tells.
+    let p = err_from_is_err_and c.from_residual.result c.from_residual.ensures.1 in
+    let v = var_there c.args.known.now.relations.now tables (question_of c.args.query.now) c.loop-var.var c.requires.query tells.are.count (omega arith) in
+    let now = rw (← c.loop-var.invariant.whole) at tells in
+    rw (p.1, p.2) (c.in_err-stats_of.ensures.told tables v.table v.relation v.var now v.at_var v.at_relation v.at_table)
+
+pub loop-var-preserved : goal.loop-var-preserved
+loop-var-preserved g c =
+    let inv = c.loop-var.invariant in
+    let step = c.in_ok-stats_of.ensures in
+    let stats = c.loop-var.stats.items in
+    let s = c.in_ok-stats_of.field-0 in
+    let items : c.push.new.self.items ≡ stats ++ s ∷ [] = c.in_ok-push.ensures.items in
+    record {
+      whole = step.whole ∙ inv.whole;
+      counts = λ d. omega (arith, inv.counts d, step.counts d);
+      count = ap length items ∙ (length-append stats (s ∷ []) ∙ ap (λ (n : ℕ). n + 1) inv.count);
+      within = rw items (All-push (λ (x : VarStats). IfSome x.interval IsInterval) stats s inv.within step.within);
+      told = λ tables tells.
+          let now = rw (← inv.whole) at tells in
+          rw items
+          (one_counted c.args.known.now.relations.now tables (question_of c.args.query.now) stats c.loop-var.var s inv.count (inv.told tables tells)
+          (λ v relation table at_v at_r at_t. step.told tables table relation v now at_v at_r at_t));
+    }
+
+pub returns-clause-told : goal.returns-clause-told
+returns-clause-told g c = λ tables tells.
+    let count : length c.loop-var.stats.items ≡ length c.args.query.now.vars = omega (arith, c.loop-var.invariant.count) in
+    rw c.from_vec.ensures (all_counted c.args.known.now.relations.now tables (question_of c.args.query.now) c.loop-var.stats.items count (c.loop-var.invariant.told tables tells))

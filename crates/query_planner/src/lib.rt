@@ -1,0 +1,12 @@
+//! The plans of queries over tables that stand on drives.
+#![tactic(auto)]
+
+mod counting;
+mod known;
+mod laws;
+mod planning;
+#[cfg(test)]
+mod tests;
+
+pub use laws::{bound_laws, plan_laws};
+pub use planning::{Planned, plan_queries};
