@@ -1,14 +1,12 @@
 -- What a run shows of a task that was done.
-use Rattle.std.proofs.Common.{◌≡◌, ◌≤◌, ℕ, List, [], Option, Some, None, Result, Ok, Err, refl, sym, ap, subst, ◌∙◌, arith}
+use Rattle.std.proofs.Common.{◌≡◌, ℕ, List, [], Option, Some, None, Result, Ok, Err, sym, subst}
 use Rattle.std.specs.Global.{Vec}
-use Rattle.xp_outside.specs.Outside.{Rose, appended, AppendsFront}
 use Rattle.xp_outside.specs.declared.drive.Drive.{Ghosts}
-use Rattle.table_store.specs.Readings.{AllTell}
 use Rattle.xprs_top.specs.declared.status.Status.{Status}
 use Rattle.xprs_top.specs.declared.status.Status.TheVariants.{Done, Usage, Refused, ShelfFault, DriveFault, Bad, SinkFault, NoMemory, DriveFull, NotBuilt}
 use Rattle.xprs_top.specs.Devices.{Makes}
-use Rattle.xprs_top.specs.Inputs.{OnFiles, Shows}
-use Rattle.xprs_top.specs.Readings.{Files, IsJob, Job, job_text}
+use Rattle.xprs_top.specs.Inputs.{Shows}
+use Rattle.xprs_top.specs.Readings.{IsJob, Job}
 use Rattle.xprs_top.specs.Runs.{Asks, Caused, Faulty, IsEarly, Outside, Poured}
 use Rattle.xprs_top.specs.Words.{Request}
 
@@ -42,13 +40,13 @@ module _ {D : Type 0} (g : Ghosts D) where
     caused_err NotBuilt made same = absurd made
 
     caused_ok : (text : Vec ℕ) (status : Status) → Makes g job o.rack_before o.rack_now drives (Ok text) → Poured o.old o.new o.out_before o.out_now (Ok text) status → Caused g form o drives status
-    caused_ok text Done made wrote = (job, asks, made.0, λ all. wrote ∙ ap (appended o.old) (made.1 all))
+    caused_ok text Done made wrote = (job, asks, made.0, λ all. (text.items, made.1 all, wrote))
     caused_ok text Usage made wrote = absurd wrote
     caused_ok text (Refused r) made wrote = absurd wrote
     caused_ok text ShelfFault made wrote = absurd wrote
     caused_ok text (DriveFault d) made wrote = absurd wrote
     caused_ok text (Bad bad) made wrote = absurd wrote
-    caused_ok text SinkFault made wrote = (job, wrote.0, asks, made.0, λ all. subst (AppendsFront o.old o.new) (made.1 all) wrote.1)
+    caused_ok text SinkFault made wrote = (job, wrote.0, asks, made.0, λ all. (text.items, made.1 all, wrote.1))
     caused_ok text NoMemory made wrote = absurd wrote
     caused_ok text (DriveFull d needs capacity) made wrote = absurd wrote
     caused_ok text NotBuilt made wrote = absurd wrote

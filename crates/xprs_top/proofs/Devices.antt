@@ -1,9 +1,7 @@
 -- What drives show.
-use Rattle.std.proofs.Common.{◌≡◌, ◌≤◌, ◌<◌, ℕ, zero, suc, ◌+◌, min, Bool, true, false, List, [], ◌∷◌, length, map, take, ◌++◌, Option, Some, None, Result, Ok, Err, refl, sym, ap, subst, ◌∙◌, arith, inl, inr, IfErr, IfOk}
-use Rattle.std.specs.Prelude.{slice_get, is_some, IsTrue, All, ◌⊎◌}
+use Rattle.std.proofs.Common.{◌≡◌, ℕ, zero, suc, Bool, List, [], ◌∷◌, length, take, ◌++◌, Option, Some, None, Ok, Err, refl, sym, ap, subst, ◌∙◌, arith, inl, inr}
+use Rattle.std.specs.Prelude.{is_some, IsTrue, ◌⊎◌}
 use Rattle.std.specs.Global.{Vec}
-use Rattle.xp_outside.specs.Drives.{IsFresh}
-use Rattle.xp_outside.specs.Outside.{Rose}
 use Rattle.xp_outside.specs.declared.drive.Drive.{Ghosts}
 use Rattle.heap_page.specs.declared.errors.BadPage.{BadPage}
 use Rattle.heap_page.specs.declared.errors.FetchErr.{FetchErr}
@@ -11,23 +9,21 @@ use Rattle.heap_page.specs.declared.errors.FetchErr.TheVariants as fetch
 use Rattle.heap_page.specs.declared.errors.StoreErr.{StoreErr}
 use Rattle.heap_page.specs.declared.errors.StoreErr.TheVariants as store
 use Rattle.heap_page.specs.declared.map.FileMap.{FileMap}
-use Rattle.heap_page.specs.Stores.{AreRead, HaveRoom, IsFault}
-use Rattle.rows.specs.declared.plain.Relation.{Relation}
+use Rattle.heap_page.specs.Stores.{AreRead, IsFault}
 use Rattle.rel_meaning.specs.declared.query.Table.{Table}
 use Rattle.table_store.specs.declared.database.Laid.{Laid}
 use Rattle.table_store.specs.declared.files.StoredTable.{StoredTable}
-use Rattle.table_store.specs.Databases.{AllFresh, AreKept, IsLaidOut, LayoutCause, MayStore, ReadCause, TellTables}
-use Rattle.table_store.specs.Images.{HoldImage, HoldsPart}
+use Rattle.table_store.specs.Databases.{AllFresh, AreKept, IsLaidOut, LayoutCause, ReadCause, TellTables}
+use Rattle.table_store.specs.Images.{HoldImage}
 use Rattle.table_store.specs.Readings.{AllTell}
-use Rattle.table_store.proofs.Filed.{all_at}
 use Rattle.table_store.proofs.Laying.{kept_reading, kept_trans}
-use Rattle.table_store.proofs.Pages.{get_below, one_at, room_read, there}
-use Rattle.xprs_top.specs.declared.status.Status.{Status}
+use Rattle.table_store.proofs.Pages.{get_below, room_read, there}
 use Rattle.xprs_top.specs.Answers.{answers_bytes}
-use Rattle.xprs_top.specs.Devices.{Fit, HasFailed, Holds, IsUntold, Layout, Makes}
-use Rattle.xprs_top.specs.Readings.{Checked, answer}
+use Rattle.xprs_top.specs.Devices.{Fit, HasFailed, IsUntold, Makes}
+use Rattle.xprs_top.specs.declared.goal.Goal.{Goal}
+use Rattle.xprs_top.specs.declared.goal.Goal.TheVariants.{Answers}
+use Rattle.xprs_top.specs.Readings.{Checked, over}
 use Rattle.xprs_top.specs.Statuses.{of_fetch, of_store}
-use Rattle.xprs_top.proofs.Stored.{columns_agree}
 
 module _ {D : Type 0} (g : Ghosts D) where
   -- all drives tell, or one doesn't
@@ -74,14 +70,14 @@ module _ {D : Type 0} (g : Ghosts D) where
   -- ---- a database that is laid out
 
   module _ (checked : Checked) (db : List Table) (before now : ℕ) where
-    pub lay_made : (olds mids : List D) (e : StoreErr) → length olds ≡ 4 → AllFresh g olds → AreKept g olds mids → LayoutCause g checked.catalog db olds mids e → Makes g (answer checked db) before now mids (Err (of_store e))
-    lay_made olds mids (store.DriveFault d) count fresh kept (tables, stored, lay) = (
+    pub lay_made : (goal : Goal) (olds mids : List D) (e : StoreErr) → length olds ≡ 4 → AllFresh g olds → AreKept g olds mids → LayoutCause g checked.catalog db olds mids e → Makes g (over goal checked db) before now mids (Err (of_store e))
+    lay_made goal olds mids (store.DriveFault d) count fresh kept (tables, stored, lay) = (
       record { count = kept.len ∙ count; layout = record { tables = tables; stored = stored; map_of = lay.0; is = rw (← count) lay.1 }; room = lay.2 },
       record { drive = lay.3.new; here = lay.3.is; some = omega (arith, lay.3.rose) },
     )
-    lay_made olds mids (store.DriveFull d needs capacity) count fresh kept (tables, stored, lay) =
+    lay_made goal olds mids (store.DriveFull d needs capacity) count fresh kept (tables, stored, lay) =
         record { count = kept.len ∙ count; layout = record { tables = tables; stored = stored; map_of = lay.0; is = rw (← count) lay.1 }; full = lay.2 }
-    lay_made olds mids store.NoMemory count fresh kept cause = tt
+    lay_made goal olds mids store.NoMemory count fresh kept cause = tt
 
     module _ (olds mids news : List D) (laid : Laid) (count : length olds ≡ 4) (fresh : AllFresh g olds) (kept : AreKept g olds mids) (out : IsLaidOut g checked.catalog db olds mids laid) (read : AreRead g mids news) where
       abbrev pub is_fit : Fit g checked.catalog db news
@@ -97,12 +93,12 @@ module _ {D : Type 0} (g : Ghosts D) where
       abbrev NeverBad : FetchErr → Type 0
       NeverBad e = (bad : BadPage) → TellTables g laid db mids → ◌≡◌ {A = FetchErr} e (fetch.BadPage bad) → ⊥
 
-      pub read_made : (e : FetchErr) → ReadCause g laid mids news e → NeverBad e → Makes g (answer checked db) before now news (Err (of_fetch e))
-      read_made (fetch.DriveFault d) cause never = (is_fit, record { drive = cause.new; here = cause.is; some = omega (arith, cause.rose) })
-      read_made (fetch.BadPage bad) cause never = (is_fit, untold news (λ all. never bad (tell_mids all) refl))
-      read_made fetch.NoMemory cause never = tt
+      pub read_made : (goal : Goal) (e : FetchErr) → ReadCause g laid mids news e → NeverBad e → Makes g (over goal checked db) before now news (Err (of_fetch e))
+      read_made goal (fetch.DriveFault d) cause never = (is_fit, record { drive = cause.new; here = cause.is; some = omega (arith, cause.rose) })
+      read_made goal (fetch.BadPage bad) cause never = (is_fit, untold news (λ all. never bad (tell_mids all) refl))
+      read_made goal fetch.NoMemory cause never = tt
 
-      pub text_made : (found : List Table) (text : Vec ℕ) → (TellTables g laid db mids → found ≡ db) → text.items ≡ answers_bytes found checked.questions → Makes g (answer checked db) before now news (Ok text)
+      pub text_made : (found : List Table) (text : Vec ℕ) → (TellTables g laid db mids → found ≡ db) → text.items ≡ answers_bytes found checked.questions → Makes g (over Answers checked db) before now news (Ok text)
       text_made found text again is =
           ((is_fit, image_read laid.map out.tables mids news read (out.image fresh)), λ all. is ∙ ap (λ (tables : List Table). answers_bytes tables checked.questions) (again (tell_mids all)))
 

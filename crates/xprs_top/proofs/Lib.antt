@@ -6,6 +6,8 @@ pub mod Short
 pub mod Indexes
 pub mod Stored
 pub mod Devices
+pub mod Asked
+pub mod Explained
 pub mod Caused
 pub mod OneJob
 pub mod Refusals

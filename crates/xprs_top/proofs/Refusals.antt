@@ -1,13 +1,13 @@
 -- Told files that give a job are answered, and so is a fault of theirs.
-use Rattle.std.proofs.Common.{◌≡◌, ◌≤◌, ◌<◌, ℕ, List, Bool, true, false, true≢false, Option, Some, None, Ok, Err, Result, sym, ap, subst, ◌∙◌, arith}
+use Rattle.std.proofs.Common.{◌≡◌, ℕ, List, true≢false, Option, Some, None, Ok, Err, Result, sym, subst, arith}
 use Rattle.std.specs.Prelude.{is_some, IsTrue}
 use Rattle.xp_outside.specs.declared.drive.Drive.{Ghosts}
 use Rattle.table_store.specs.Readings.{AllTell}
 use Rattle.xprs_top.specs.declared.status.Status.{Status}
 use Rattle.xprs_top.specs.declared.status.Status.TheVariants.{Done, Usage, Refused, ShelfFault, DriveFault, Bad, SinkFault, NoMemory, DriveFull, NotBuilt}
 use Rattle.xprs_top.specs.Devices.{Exceeds, IsRoomy, IsUntold}
-use Rattle.xprs_top.specs.Readings.{Files, IsJob, Job, write, answer}
-use Rattle.xprs_top.specs.Runs.{Asks, Caused, Completes, Faulty, IsDoneOrNoMemory, IsThisOrShelfFaultOrNoMemory, Outside, Refuses}
+use Rattle.xprs_top.specs.Readings.{Files, IsJob, Job, write, over}
+use Rattle.xprs_top.specs.Runs.{Asks, Caused, Completes, Faulty, Outside, Refuses}
 use Rattle.xprs_top.specs.Words.{Request}
 use Rattle.xprs_top.proofs.OneJob.{one_job}
 
@@ -57,9 +57,9 @@ module _ {D : Type 0} (g : Ghosts D) where
 
   not_full : (job : Job) (d needs capacity : ℕ) (drives : List D) → IsRoomy g job drives → Exceeds g job d needs capacity drives → ⊥
   not_full (write text) d needs capacity drives roomy full = full
-  not_full (answer checked db) d needs capacity drives roomy over =
-      let room = roomy over.layout d over.full.drive over.full.here in
-      omega (arith, room, over.full.small, over.full.needs_is, over.full.capacity_is)
+  not_full (over goal checked db) d needs capacity drives roomy full =
+      let room = roomy full.layout d full.full.drive full.full.here in
+      omega (arith, room, full.full.small, full.full.needs_is, full.full.capacity_is)
 
   pub completed : (form : Option Request) (o : Outside) (drives : List D) (status : Status) → Caused g form o drives status → Completes g form o drives status
   completed form o drives Done h request files job e f k all none roomy s r w = tt

@@ -1,14 +1,12 @@
 -- Tables that are read one after another can be stored.
-use Rattle.std.proofs.Common.{◌≡◌, ◌≤◌, ◌<◌, ℕ, zero, suc, ◌+◌, List, [], ◌∷◌, ◌++◌, length, map, get_or, refl, sym, ap, ap₂, subst, ◌∙◌, arith, inl, inr, Some}
+use Rattle.std.proofs.Common.{◌≡◌, ◌<◌, ℕ, suc, ◌+◌, List, [], ◌∷◌, ◌++◌, length, map, get_or, refl, ap, ap₂, ◌∙◌, arith, inl, inr, Some}
 use Rattle.std.specs.Prelude.{slice_get, All}
 use Rattle.std.proofs.lemmas.List.{length-append}
 use Rattle.catalog_load.specs.Limits.{HasLimits}
 use Rattle.rows.specs.declared.plain.Column.{Column}
 use Rattle.rows.specs.declared.plain.Relation.{Relation}
-use Rattle.rows.specs.declared.value.Value.{Value}
 use Rattle.rows.specs.RowBytes.{IsRowOf}
 use Rattle.rel_meaning.specs.declared.query.Table.{Table}
-use Rattle.rel_meaning.specs.Meaning.{IsTable}
 use Rattle.name_check.specs.Resolved.{AreTables}
 use Rattle.table_store.specs.Databases.{IsTableOf, MayStore}
 use Rattle.table_store.proofs.Pages.{get_last, one_at}

@@ -1,5 +1,5 @@
 -- What a job leaves on its drives, and what shows that it failed there.
-use Rattle.std.specs.Prelude.{◌≡◌, ◌⊎◌, ℕ, ◌<◌, List, [], length, slice_get, Option, Some, None, Result, Ok, Err, ⊤}
+use Rattle.std.specs.Prelude.{◌≡◌, ◌⊎◌, ℕ, ◌<◌, List, [], length, slice_get, Some, None, Result, Ok, Err, ⊤}
 use Rattle.std.specs.Global.{Vec}
 use Rattle.xp_outside.specs.Outside.{Rose}
 use Rattle.xp_outside.specs.declared.drive.Drive.{Ghosts}
@@ -13,7 +13,8 @@ use Rattle.table_store.specs.Images.{HoldImage}
 use Rattle.table_store.specs.Readings.{AllTell}
 use Rattle.xprs_top.specs.declared.status.Status.{Status}
 use Rattle.xprs_top.specs.declared.status.Status.TheVariants.{DriveFault, Bad, NoMemory, DriveFull}
-use Rattle.xprs_top.specs.Readings.{Job, write, answer, job_text}
+use Rattle.xprs_top.specs.Readings.{Job, write, over}
+use Rattle.xprs_top.specs.Texts.{IsText}
 
 -- the tables as they are stored, and the places of their pages on so many drives
 pub record Layout (relations : List Relation) (db : List Table) (drives : ℕ) : Type 0 where
@@ -56,28 +57,28 @@ module _ {D : Type 0} (g : Ghosts D) where
     pub layout : Layout relations db 4
     pub full : IsFull g layout.map_of d needs capacity drives
 
-  -- the same of the tables of a job; only a job that answers has tables
+  -- the same of the tables of a job; a job that only writes has none
   abbrev pub Fits : Job → List D → Type 0
   Fits (write text) drives = ⊥
-  Fits (answer checked db) drives = Fit checked.catalog db drives
+  Fits (over goal checked db) drives = Fit checked.catalog db drives
 
   abbrev pub Exceeds : Job → ℕ → ℕ → ℕ → List D → Type 0
   Exceeds (write text) d needs capacity drives = ⊥
-  Exceeds (answer checked db) d needs capacity drives = IsOverfull checked.catalog db d needs capacity drives
+  Exceeds (over goal checked db) d needs capacity drives = IsOverfull checked.catalog db d needs capacity drives
 
   -- by every layout of the job's tables each drive has the pages that are needed there
   abbrev pub IsRoomy : Job → List D → Type 0
   IsRoomy (write text) drives = ⊤
-  IsRoomy (answer checked db) drives = (layout : Layout checked.catalog db 4) → HaveRoom g layout.map_of drives
+  IsRoomy (over goal checked db) drives = (layout : Layout checked.catalog db 4) → HaveRoom g layout.map_of drives
 
-  -- A job that only writes a text has no drives. A job that answers has four, and each one that tells holds exactly its part of the tables.
+  -- A job that only writes a text has no drives. Another one has four, and each one that tells holds exactly its part of the tables.
   abbrev pub Holds : Job → List D → Type 0
   Holds (write text) drives = drives ≡ []
-  Holds (answer checked db) drives = (fit : Fit checked.catalog db drives) × HoldImage g fit.layout.map_of fit.layout.tables drives
+  Holds (over goal checked db) drives = (fit : Fit checked.catalog db drives) × HoldImage g fit.layout.map_of fit.layout.tables drives
 
   -- a text that was made is the job's, where all drives tell, and what shows why none was made
   abbrev pub Makes : Job → ℕ → ℕ → List D → Result (Vec ℕ) Status → Type 0
-  Makes job before now drives (Ok text) = Holds job drives × (AllTell g drives → text.items ≡ job_text job)
+  Makes job before now drives (Ok text) = Holds job drives × (AllTell g drives → IsText job text.items)
   Makes job before now drives (Err (DriveFault None)) = Rose before now × (drives ≡ [])
   Makes job before now drives (Err (DriveFault (Some d))) = Fits job drives × HasFailed d drives
   Makes job before now drives (Err (Bad bad)) = Fits job drives × IsUntold drives

@@ -14,10 +14,10 @@ use Rattle.xprs_top.specs.declared.status.Refused.TheVariants.{Missing, TooLong,
 use Rattle.xprs_top.specs.declared.script.ReadScript.{ReadScript}
 use Rattle.xprs_top.specs.declared.input.Checked.{Checked as Input}
 use Rattle.xprs_top.specs.declared.task.Task.{Task}
-use Rattle.xprs_top.specs.declared.task.Task.TheVariants.{Print, Answer}
+use Rattle.xprs_top.specs.declared.task.Task.TheVariants.{Print, Over}
 use Rattle.xprs_top.specs.declared.refusal.Naming.{Naming}
 use Rattle.xprs_top.specs.declared.refusal.Naming.TheVariants as naming
-use Rattle.xprs_top.specs.Readings.{Checked, Files, IsProgram, Job, write, answer}
+use Rattle.xprs_top.specs.Readings.{Checked, Files, IsProgram, Job, write, over}
 
 -- a script that was read over a catalogue
 abbrev pub checked_of : List Relation → ReadScript → Checked
@@ -28,7 +28,7 @@ read_of input = checked_of input.catalog input.read
 
 abbrev pub job_of : Task → Job
 job_of (Print text) = write text.items
-job_of (Answer checked db) = answer (read_of checked) db
+job_of (Over goal checked db) = over goal (read_of checked) db
 
 -- a fact about the files, where the shelf tells them
 abbrev pub OnFiles : Option Files → (Files → Type 0) → Type 0

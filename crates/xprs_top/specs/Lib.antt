@@ -2,6 +2,7 @@ pub mod Answers
 pub mod Faults
 pub mod Words
 pub mod Readings
+pub mod Texts
 pub mod Inputs
 pub mod Devices
 pub mod Runs

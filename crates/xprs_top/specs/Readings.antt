@@ -26,9 +26,10 @@ use Rattle.xprs_top.specs.declared.status.Status.{Status}
 use Rattle.xprs_top.specs.declared.status.Status.TheVariants.{Refused, NotBuilt, NoMemory}
 use Rattle.xprs_top.specs.declared.status.Refused.TheVariants.{Missing, TooLong, Script, Table as TableFault}
 use Rattle.xprs_top.specs.declared.words.Verb.{Verb}
-use Rattle.xprs_top.specs.declared.words.Verb.TheVariants.{Alone, Check}
+use Rattle.xprs_top.specs.declared.goal.Goal.{Goal}
+use Rattle.xprs_top.specs.declared.goal.Goal.TheVariants.{Answers, Plans}
+use Rattle.xprs_top.specs.declared.words.Verb.TheVariants.{Alone, Check, Explain}
 use Rattle.xprs_top.specs.Words.{Request}
-use Rattle.xprs_top.specs.Answers.{answers_bytes}
 
 abbrev pub Files : Type 0
 Files = List (List ℕ × List ℕ)
@@ -117,23 +118,20 @@ tables_of files (relation ∷ relations) =
 abbrev pub is_unbuilt : Program → Bool
 is_unbuilt program = list_any has_fold program.sentences || list_any is_kept program.sentences
 
--- what a run is to do: write this text, or answer the questions of a script over the tables of its catalogue
+-- what a run is to do: write this text, or make what is asked for of the questions of a script and the tables of its catalogue
 pub data Job : Type 0 where
   write : List ℕ → Job
-  answer : Checked → List Table → Job
+  over : Goal → Checked → List Table → Job
 
-abbrev pub answering : Checked → List Table → Result Job Status
-answering checked db = if is_unbuilt checked.program then Err NotBuilt else Ok (answer checked db)
+abbrev pub over_tables : Goal → Checked → List Table → Result Job Status
+over_tables goal checked db = if is_unbuilt checked.program then Err NotBuilt else Ok (over goal checked db)
 
 abbrev pub job_by : Files → Verb → Checked → Result Job Status
 job_by files Check checked = Ok (write (script_text checked.program))
-job_by files Alone checked = bind (tables_of files checked.catalog) (answering checked)
+job_by files Alone checked = bind (tables_of files checked.catalog) (over_tables Answers checked)
+job_by files (Explain m) checked = bind (tables_of files checked.catalog) (over_tables (Plans m) checked)
 
--- the job that is asked for: of `check` to write the script as it prints, of `alone` to answer, for which all tables are read
+-- The job that is asked for: of `check` to write the script as it prints, of `alone` to answer it and of `explain` to show its plans, for
+-- both of which all tables are read.
 abbrev pub IsJob : Files → Request → Result Job Status → Type 0
 IsJob files request = Then (IsChecked files request) (λ checked. Just (job_by files request.verb checked))
-
--- the text of a job
-abbrev pub job_text : Job → List ℕ
-job_text (write text) = text
-job_text (answer checked db) = answers_bytes db checked.questions

@@ -7,11 +7,12 @@ use Rattle.table_store.specs.Readings.{AllTell}
 use Rattle.xprs_top.specs.declared.status.Status.{Status}
 use Rattle.xprs_top.specs.declared.status.Status.TheVariants.{Done, Usage, Refused, ShelfFault, DriveFault, Bad, SinkFault, NoMemory, DriveFull, NotBuilt}
 use Rattle.xprs_top.specs.declared.words.Verb.{Verb}
-use Rattle.xprs_top.specs.declared.words.Verb.TheVariants.{Alone, Check}
+use Rattle.xprs_top.specs.declared.words.Verb.TheVariants.{Alone, Check, Explain}
 use Rattle.xprs_top.specs.Devices.{Exceeds, Fits, HasFailed, Holds, IsRoomy, IsUntold, NoneFailed}
 use Rattle.xprs_top.specs.Faults.{fault_line}
 use Rattle.xprs_top.specs.Inputs.{OnFiles}
-use Rattle.xprs_top.specs.Readings.{Files, IsJob, Job, job_text}
+use Rattle.xprs_top.specs.Readings.{Files, IsJob, Job}
+use Rattle.xprs_top.specs.Texts.{IsText}
 use Rattle.xprs_top.specs.Words.{Request}
 
 -- the words are a form, and where the shelf tells its files they give this job
@@ -45,6 +46,7 @@ outside files sb sn rb rn ob on old new =
 abbrev pub IsCheck : Verb → Type 0
 IsCheck Check = ⊤
 IsCheck Alone = ⊥
+IsCheck (Explain m) = ⊥
 
 abbrev pub AsksCheck : Option Request → Type 0
 AsksCheck None = ⊥
@@ -87,14 +89,14 @@ Refuses form o status = (request : Request) (files : Files) (fault : Status) →
 module _ {D : Type 0} (g : Ghosts D) where
   -- what shows each status, the drives that are handed back, and what the output got
   abbrev pub Caused : Option Request → Outside → List D → Status → Type 0
-  Caused form o drives Done = (job : Job) × Asks o.files form job × Holds g job drives × (AllTell g drives → o.new ≡ appended o.old (job_text job))
+  Caused form o drives Done = (job : Job) × Asks o.files form job × Holds g job drives × (AllTell g drives → (text : List ℕ) × IsText job text × (o.new ≡ appended o.old text))
   Caused form o drives Usage = (form ≡ None) × (drives ≡ []) × (o.new ≡ o.old)
   Caused form o drives (Refused r) = Faulty o.files form (Refused r) × (drives ≡ []) × (o.new ≡ o.old)
   Caused form o drives ShelfFault = Rose o.shelf_before o.shelf_now × (drives ≡ []) × (o.new ≡ o.old)
   Caused form o drives (DriveFault None) = (job : Job) × Asks o.files form job × Rose o.rack_before o.rack_now × (drives ≡ []) × (o.new ≡ o.old)
   Caused form o drives (DriveFault (Some d)) = (job : Job) × Asks o.files form job × Fits g job drives × HasFailed g d drives × (o.new ≡ o.old)
   Caused form o drives (Bad bad) = (job : Job) × Asks o.files form job × Fits g job drives × IsUntold g drives × (o.new ≡ o.old)
-  Caused form o drives SinkFault = (job : Job) × Rose o.out_before o.out_now × Asks o.files form job × Holds g job drives × (AllTell g drives → AppendsFront o.old o.new (job_text job))
+  Caused form o drives SinkFault = (job : Job) × Rose o.out_before o.out_now × Asks o.files form job × Holds g job drives × (AllTell g drives → (text : List ℕ) × IsText job text × AppendsFront o.old o.new text)
   Caused form o drives NoMemory = o.new ≡ o.old
   Caused form o drives (DriveFull d needs capacity) = (job : Job) × Asks o.files form job × Exceeds g job d needs capacity drives × (o.new ≡ o.old)
   Caused form o drives NotBuilt = Faulty o.files form NotBuilt × (drives ≡ []) × (o.new ≡ o.old)

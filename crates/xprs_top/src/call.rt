@@ -3,7 +3,8 @@ ghost use Rattle.xprs_top.specs.Devices.{IsCount};
 ghost use Rattle.xprs_top.specs.Runs.{AsksCheck, Caused, Completes, IsEarly, Poured, Refuses, Tells, outside};
 ghost use Rattle.xprs_top.specs.Words.{form_of};
 
-use crate::answering::{Made, make};
+use crate::made::Made;
+use crate::making::make;
 use crate::task::read_task;
 use crate::words::read_words;
 use crate::{Outcome, Status, pour_fault};
@@ -63,7 +64,8 @@ fn run<S: Shelf, K: Rack, W: Sink>(
 /// Does all that the program does, on one thread: reads the words, fetches and reads the catalogue and the script, and
 /// writes a text to `out` and the line of a fault to `err`. For `check` the text is the script in its printed form. For
 /// `alone` the tables are fetched and read in catalogue order, laid on four drives and read back page by page, and the
-/// text is the answers of the statements over what was read. The drives are handed back wherever they were mounted. It
+/// text is the answers of the statements over what was read. For `explain` they are laid on four drives, and the text
+/// is the plans of the statements by what was written: counts of pages and rows, and searches in the indexes. The drives are handed back wherever they were mounted. It
 /// always returns. A failure of `err` changes nothing else.
 pub fn answer_alone<S: Shelf, K: Rack, W: Sink, E: Sink>(
     alloc: Global,

@@ -1,13 +1,12 @@
 //! What the files of a shelf are read as.
 ghost use Rattle.std.specs.Prelude.{◌≡◌, ◌≤◌, All, IfOk, length};
 ghost use Rattle.postquel.specs.Program.{program_of};
-ghost use Rattle.name_check.specs.Resolved.{Answerable};
 ghost use Rattle.catalog_load.specs.Limits.{HasLimits};
 ghost use Rattle.table_store.specs.Databases.{AreShort, IsTableOf, MayStore};
 ghost use Rattle.rows.specs.RowBytes.{IsRowOf};
 ghost use Rattle.xprs_top.specs.Inputs.{Told, checked_of, read_of};
 ghost use Rattle.xprs_top.specs.Readings.{IsCatalog, IsChecked, IsScript, Just, fetch_of, table_of, tables_of};
-ghost use Rattle.xprs_top.specs.Tasks.{HasIndexColumn};
+ghost use Rattle.xprs_top.specs.Tasks.{HasIndexColumn, MayServe};
 ghost use Rattle.xprs_top.specs.Words.{request_of};
 
 use crate::Status;
@@ -67,7 +66,7 @@ fn script_input<S: Shelf>(
     ensures files { S.files shelf.new ≡ S.files shelf.old }
     ensures count { S.faults shelf.old ≤ S.faults shelf.new }
     ensures told { Told (S.files shelf.old) (S.faults shelf.old) (S.faults shelf.new) (checked_of catalog.now) result (λ files. IsScript files catalog.now name.now) }
-    ensures answerable { IfOk result (λ read. Answerable catalog.now (program_of read.script).sentences read.queries) }
+    ensures serve { IfOk result (λ read. MayServe catalog.now (program_of read.script).sentences read.queries) }
 {
     let bytes = fetched(alloc, shelf, name)?;
     checked_script(alloc, name, bytes.as_slice(), catalog)
@@ -84,7 +83,7 @@ pub(crate) fn read_checked<S: Shelf>(
     ensures told { Told (S.files shelf.old) (S.faults shelf.old) (S.faults shelf.new) read_of result (λ files. IsChecked files (request_of operands.now)) }
     ensures limits { IfOk result (λ checked. HasLimits checked.catalog) }
     ensures indexes { IfOk result (λ checked. All HasIndexColumn checked.catalog) }
-    ensures answerable { IfOk result (λ checked. Answerable checked.catalog (program_of checked.read.script).sentences checked.read.queries) }
+    ensures serve { IfOk result (λ checked. MayServe checked.catalog (program_of checked.read.script).sentences checked.read.queries) }
 {
     let catalog = catalog_input(alloc, shelf, operands.catalog)?;
     let read = script_input(alloc, shelf, &catalog, operands.script)?;

@@ -3,8 +3,12 @@
 
 mod answering;
 mod call;
+mod explaining;
 mod fault;
+mod goal;
 mod input;
+mod made;
+mod making;
 mod piece;
 mod refusal;
 mod script;

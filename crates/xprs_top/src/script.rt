@@ -4,11 +4,10 @@ ghost use Rattle.postquel.specs.Program.{program_of};
 ghost use Rattle.catalog_load.specs.Limits.{HasLimits};
 ghost use Rattle.catalog_load.specs.Readings as catalog;
 ghost use Rattle.name_check.specs.Machine.{machine_steps};
-ghost use Rattle.name_check.specs.Resolved.{Answerable};
 ghost use Rattle.name_check.specs.Sentences.{HasNumbers, heading_of, queries_of};
 ghost use Rattle.rel_meaning.specs.Expression.{question_of};
 ghost use Rattle.xprs_top.specs.Inputs.{Finds, IsParsed, checked_of};
-ghost use Rattle.xprs_top.specs.Tasks.{HasIndexColumn};
+ghost use Rattle.xprs_top.specs.Tasks.{HasIndexColumn, MayServe};
 ghost use Rattle.xprs_top.specs.Readings.{InFile, IsProgram, Just, Then, check_of, checked_in};
 
 use crate::Status;
@@ -80,7 +79,7 @@ fn queries_in(
 ) -> Result<QueryList, Status>
     requires { All HasNumbers (program_of script.now).sentences }
     ensures value { Finds (λ q. map question_of q) result (Just (checked_in name.now (queries_of (map heading_of catalog.now) (program_of script.now).sentences))) }
-    ensures answerable { IfOk result (Answerable catalog.now (program_of script.now).sentences) }
+    ensures serve { IfOk result (MayServe catalog.now (program_of script.now).sentences) }
 {
     match resolve(alloc, script, catalog) {
         Ok(queries) => Ok(queries),
@@ -97,7 +96,7 @@ fn checked(
 ) -> Result<ReadScript, Status>
     requires { All HasNumbers (program_of script).sentences }
     ensures value { Finds (checked_of catalog.now) result (check_of catalog.now name.now (program_of script)) }
-    ensures answerable { IfOk result (λ read. Answerable catalog.now (program_of read.script).sentences read.queries) }
+    ensures serve { IfOk result (λ read. MayServe catalog.now (program_of read.script).sentences read.queries) }
 {
     let steps = steps_in(alloc, name, &script)?;
     let queries = queries_in(alloc, name, &script, catalog)?;
@@ -117,7 +116,7 @@ pub(crate) fn checked_script(
 ) -> Result<ReadScript, Status>
     requires { length bytes.now ≤ 67108864 }
     ensures value { Finds (checked_of catalog.now) result (Then (InFile name.now (IsProgram bytes.now)) (check_of catalog.now name.now)) }
-    ensures answerable { IfOk result (λ read. Answerable catalog.now (program_of read.script).sentences read.queries) }
+    ensures serve { IfOk result (λ read. MayServe catalog.now (program_of read.script).sentences read.queries) }
 {
     let script = script_in(alloc, name, bytes)?;
     checked(alloc, name, script, catalog)

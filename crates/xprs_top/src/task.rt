@@ -1,18 +1,17 @@
 //! What a run is to do.
 ghost use Rattle.std.specs.Prelude.{◌≡◌, ◌≤◌, All, IfOk, Ok};
 ghost use Rattle.catalog_load.specs.Limits.{HasLimits};
-ghost use Rattle.name_check.specs.Resolved.{Answerable};
 ghost use Rattle.postquel.specs.Print.{script_text};
 ghost use Rattle.postquel.specs.Program.{program_of};
 ghost use Rattle.table_store.specs.Databases.{MayStore};
-ghost use Rattle.xprs_top.specs.declared.words.Verb.TheVariants as verb;
 ghost use Rattle.xprs_top.specs.Inputs.{Finds, Told, job_of, read_of};
-ghost use Rattle.xprs_top.specs.Readings.{IsJob, Just, answering, is_unbuilt, job_by, write};
+ghost use Rattle.xprs_top.specs.Readings.{IsJob, Just, bind, is_unbuilt, over_tables, tables_of, write};
 ghost use Rattle.xprs_top.specs.Runs.{IsCheck};
-ghost use Rattle.xprs_top.specs.Tasks.{HasIndexColumn, IsPrint, IsReady};
+ghost use Rattle.xprs_top.specs.Tasks.{HasIndexColumn, IsPrint, IsReady, MayServe};
 ghost use Rattle.xprs_top.specs.Words.{request_of};
 
 use crate::Status;
+use crate::goal::Goal;
 use crate::input::{Checked, read_checked, read_tables};
 use crate::words::{Operands, Verb};
 use name_check::{has_fold, has_into};
@@ -21,11 +20,15 @@ use rel_meaning::Database;
 use std::alloc::Global;
 use xp_outside::Shelf;
 
-/// To write a text, or to answer the statements of a checked script over the tables of its catalogue.
+/// To write a text, or to make something of a checked script and the tables of its catalogue.
 #[derive(Drop)]
 pub(crate) enum Task {
     Print(Vec<u8>),
-    Answer { checked: Checked, db: Database },
+    Over {
+        goal: Goal,
+        checked: Checked,
+        db: Database,
+    },
 }
 
 // Whether a part of the script isn't built yet.
@@ -43,31 +46,36 @@ fn print_task(alloc: Global, script: &Script) -> Result<Task, Status>
     Ok(Task::Print(print(alloc, script)?))
 }
 
-// To answer a checked script over its tables.
-fn answer_task(checked: Checked, db: Database) -> Result<Task, Status>
-    requires answerable { Answerable checked.catalog (program_of checked.read.script).sentences checked.read.queries }
+// To make something of a checked script and its tables.
+fn built_task(goal: Goal, checked: Checked, db: Database) -> Result<Task, Status>
+    requires serve { MayServe checked.catalog (program_of checked.read.script).sentences checked.read.queries }
     requires stored { MayStore checked.catalog db }
-    ensures value { Finds job_of result (Just (answering (read_of checked) db)) }
+    ensures value { Finds job_of result (Just (over_tables goal (read_of checked) db)) }
     ensures ready { IfOk result IsReady }
 {
     if has_unbuilt(&checked.read.script) {
         return Err(Status::NotBuilt);
     }
-    Ok(Task::Answer { checked, db })
+    Ok(Task::Over { goal, checked, db })
 }
 
-// To answer a checked script, for which the tables are read.
-fn alone_task<S: Shelf>(alloc: Global, shelf: &mut S, checked: Checked) -> Result<Task, Status>
+// The same, for which the tables are read.
+fn tables_task<S: Shelf>(
+    alloc: Global,
+    shelf: &mut S,
+    goal: Goal,
+    checked: Checked,
+) -> Result<Task, Status>
     requires limits { HasLimits checked.catalog }
     requires indexes { All HasIndexColumn checked.catalog }
-    requires answerable { Answerable checked.catalog (program_of checked.read.script).sentences checked.read.queries }
+    requires serve { MayServe checked.catalog (program_of checked.read.script).sentences checked.read.queries }
     ensures files { S.files shelf.new ≡ S.files shelf.old }
     ensures count { S.faults shelf.old ≤ S.faults shelf.new }
-    ensures told { Told (S.files shelf.old) (S.faults shelf.old) (S.faults shelf.new) job_of result (λ files. Just (job_by files verb.Alone (read_of checked))) }
+    ensures told { Told (S.files shelf.old) (S.faults shelf.old) (S.faults shelf.new) job_of result (λ files. Just (bind (tables_of files checked.catalog) (over_tables goal (read_of checked)))) }
     ensures ready { IfOk result IsReady }
 {
     let db = read_tables(alloc, shelf, &checked.catalog)?;
-    answer_task(checked, db)
+    built_task(goal, checked, db)
 }
 
 /// The task that the words ask for.
@@ -84,7 +92,8 @@ pub(crate) fn read_task<S: Shelf>(
 {
     let checked = read_checked(alloc, shelf, operands)?;
     match operands.verb {
-        Verb::Alone => alone_task(alloc, shelf, checked),
+        Verb::Alone => tables_task(alloc, shelf, Goal::Answers, checked),
         Verb::Check => print_task(alloc, &checked.read.script),
+        Verb::Explain(method) => tables_task(alloc, shelf, Goal::Plans(method), checked),
     }
 }

@@ -70,6 +70,15 @@ cat relation A from \"a\" (x = int4, x = bool) @ retrieve (x = ) \\g -> 2 xprs: 
 cat relation P from \"nulls.csv\" (n = text null, a = int4 null, b = int4 null) @ retrieve unique (P.b) where P.n is null or P.b is null \\g -> 0 b|\"\"|
 cat relation Z from \"z.csv\" (n = text) @ retrieve (x = 1) \\g -> 2 xprs: z.csv: missing|";
 
+// Each line is what stands behind the operands of `explain`, a script, and what is answered.
+const PLANS: &str =
+    " @ retrieve (e.name, d.floor) from e in EMP, d in DEPT where e.dept = d.dname \\g -> 0 statement 1 cost 34|plan (e:heap * d:heap)|
+--join hash @ retrieve (e.name, d.floor, x = f.name) from e in EMP, d in DEPT, f in EMP where e.dept = d.dname and f.sal = 900 \\g -> 0 statement 1 cost 53|plan (e:heap * (f:heap * d:heap))|
+--join merge @ retrieve (e.name, d.floor) from e in EMP, d in DEPT where e.dept = d.dname \\g -> 0 statement 1 cost 43|plan (e:heap ~ d:heap)|
+ @ retrieve (x = 1) \\g retrieve (ITEM.title) where ITEM.id = 7 \\g -> 0 statement 1 cost 1|plan one|statement 2 cost 12|plan ITEM:heap|
+ @ retrieve (n = count(EMP.name)) \\g -> 9 xprs: folds and into are not built yet|
+ @ retrieve (EMP.name)| -> 2 xprs: q:2:1: Unexpected|";
+
 // The calls that fail of the shelf, the output, the rack and drive 0, how many bytes the output takes at once, and how
 // many pages a drive has.
 #[derive(Clone, Copy)]
@@ -198,10 +207,16 @@ fn answer(
 }
 
 // The same over drives whose reads change one byte of every page.
-fn wild_answer(alloc: Global, files: FileList, byte: u32, mask: u8) -> Result<Vec<u8>, AllocError>
+fn wild_answer(
+    alloc: Global,
+    verb: &str,
+    files: FileList,
+    byte: u32,
+    mask: u8,
+) -> Result<Vec<u8>, AllocError>
     requires { byte < 8192 }
 {
-    let given = words_of(alloc, &["alone", "cat", "q"])?;
+    let given = words_of(alloc, &[verb, "cat", "q"])?;
     let mut shelf = MemShelf::new(files, Sequence::new(alloc));
     let mut rack = WildRack::new(8, byte, mask);
     let out = MemSink::new(alloc, 4096, Sequence::new(alloc));
@@ -242,10 +257,13 @@ fn each_script_is_answered_or_refused_at_its_place(rt: HostRuntime) -> Result<()
 #[test]
 fn words_and_devices_have_their_statuses(rt: HostRuntime) -> Result<(), Fail> {
     let alloc = rt.alloc();
-    let words: [(&[&str], &str); 5] = [
+    let words: [(&[&str], &str); 8] = [
         (&[], "1 xprs: usage|"),
         (&["alone", "cat"], "1 xprs: usage|"),
         (&["check", "cat", "q", "--trace"], "1 xprs: usage|"),
+        (&["alone", "cat", "q", "--join", "hash"], "1 xprs: usage|"),
+        (&["explain", "cat", "q", "--join"], "1 xprs: usage|"),
+        (&["explain", "cat", "q", "--join", "sort"], "1 xprs: usage|"),
         (&["alone", "-cat", "q"], "1 xprs: usage|"),
         (&["alone", "nothing", "q"], "2 xprs: nothing: missing|"),
     ];
@@ -412,10 +430,10 @@ fn a_page_that_breaks_a_rule_is_bad(rt: HostRuntime) -> Result<(), Fail> {
         let mut wanted = lines(alloc, "5 xprs: bad page: file 0 page 0 rule ")?;
         wanted.extend_from_slice(rule.as_bytes())?;
         wanted.push(b'\n')?;
-        let left = wild_answer(alloc, files(alloc, &[("cat", TWO)])?, byte, mask)?;
+        let left = wild_answer(alloc, "alone", files(alloc, &[("cat", TWO)])?, byte, mask)?;
         assert_eq!(rt; left.as_slice(), wanted.as_slice());
     }
-    let left = wild_answer(alloc, files(alloc, &[("cat", TWO)])?, 8191, 1)?;
+    let left = wild_answer(alloc, "alone", files(alloc, &[("cat", TWO)])?, 8191, 1)?;
     assert_eq!(rt;
         left.as_slice(),
         lines(alloc, "0 name|Ann|Cid|")?.as_slice()
@@ -460,5 +478,74 @@ fn a_row_may_fill_a_page_and_no_more(rt: HostRuntime) -> Result<(), Fail> {
         let left = answer(alloc, &["alone", "cat", "q"], files, SOUND)?;
         assert_eq!(rt; left.as_slice(), lines(alloc, wanted)?.as_slice());
     }
+    Ok(())
+}
+
+#[test]
+fn each_plan_is_explained(rt: HostRuntime) -> Result<(), Fail> {
+    let alloc = rt.alloc();
+    for line in PLANS.lines() {
+        let (case, wanted) = line.split_once(" -> ").unwrap_or(("", ""));
+        let (options, script) = case.split_once(" @ ").unwrap_or(("", ""));
+        let (option, value) = options.split_once(" ").unwrap_or(("", ""));
+        let words = ["explain", "cat", "q", option, value];
+        let count = if options.is_empty() { 3 } else { 5 };
+        let files = files(alloc, &[("q", script)])?;
+        let left = answer(alloc, &words[..count], files, SOUND)?;
+        assert_eq!(rt; left.as_slice(), lines(alloc, wanted)?.as_slice());
+    }
+    Ok(())
+}
+
+// The files with a table of the numbers 1 to 1,000, which has an index, and a script.
+fn numbered_files(alloc: Global, script: &str) -> Result<FileList, AllocError> {
+    let catalog = "relation NUM from \"num.csv\" (n = int4) index n|";
+    let mut bytes = Vec::from_slice(alloc, b"n\n")?;
+    for number in 1..1001u32 {
+        bytes.extend_from_slice(format!(in alloc; "{number}\n")?.as_bytes())?;
+    }
+    let mut files = files(alloc, &[("cat", catalog), ("q", script)])?;
+    let table = NamedFile {
+        name: Vec::from_slice(alloc, b"num.csv")?,
+        bytes,
+    };
+    match files.push(table) {
+        Ok(()) => Ok(files),
+        Err(_) => Err(AllocError),
+    }
+}
+
+#[test]
+fn an_index_is_searched_where_a_statement_bounds_its_column(rt: HostRuntime) -> Result<(), Fail> {
+    let alloc = rt.alloc();
+    let few = "retrieve (NUM.n) where NUM.n > 995 \\g";
+    let first = "retrieve (NUM.n) where NUM.n < 10 \\g";
+    let failing = Devices {
+        read_fails: &[1],
+        ..SOUND
+    };
+    let cases: [(&str, Devices<'_>, &str); 5] = [
+        (few, SOUND, "0 statement 1 cost 61|plan NUM:index|"),
+        (first, SOUND, "0 statement 1 cost 97|plan NUM:index|"),
+        (first, failing, "4 xprs: drive 0 failed|"),
+        (
+            "retrieve (NUM.n) where NUM.n > 2 \\g",
+            SOUND,
+            "0 statement 1 cost 1008|plan NUM:heap|",
+        ),
+        (
+            "retrieve (NUM.n) \\g",
+            failing,
+            "0 statement 1 cost 1008|plan NUM:heap|",
+        ),
+    ];
+    for (script, devices, wanted) in cases {
+        let files = numbered_files(alloc, script)?;
+        let left = answer(alloc, &["explain", "cat", "q"], files, devices)?;
+        assert_eq!(rt; left.as_slice(), lines(alloc, wanted)?.as_slice());
+    }
+    let left = wild_answer(alloc, "explain", numbered_files(alloc, few)?, 0, 1)?;
+    let bad = lines(alloc, "5 xprs: bad page: file 1 page 2 rule 1|")?;
+    assert_eq!(rt; left.as_slice(), bad.as_slice());
     Ok(())
 }

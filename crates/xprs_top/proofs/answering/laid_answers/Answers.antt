@@ -1,7 +1,6 @@
-use Rattle.std.proofs.Common.{◌≡◌, ◌∙◌, ap, Err, map}
+use Rattle.std.proofs.Common.{ap, Err}
 use Rattle.heap_page.specs.declared.errors.FetchErr.{FetchErr}
-use Rattle.rel_meaning.specs.Expression.{question_of}
-use Rattle.xprs_top.specs.Answers.{answers_bytes}
+use Rattle.xprs_top.specs.declared.goal.Goal.TheVariants.{Answers}
 use Rattle.xprs_top.specs.Inputs.{read_of}
 use Rattle.xprs_top.proofs.Devices.{lay_made, read_made, text_made}
 use Rattle.xprs_top.proofs.Stored.{are_tables, columns_agree}
@@ -10,14 +9,14 @@ use Rattle.xprs_top.proofs.answering.laid_answers.Goals as goal
 pub returns-in-Err-clause-made : goal.returns-in-Err-clause-made
 returns-in-Err-clause-made g c = λ before now.
     rw c.from.ensures
-    (lay_made g.D.Drive (read_of c.args.checked.now) c.args.db before now c.args.drives.now c.lay_database.new.drives c.in-Err.error c.requires.count c.requires.fresh c.in-Err.ensures.kept c.in-Err.ensures.err)
+    (lay_made g.D.Drive (read_of c.args.checked.now) c.args.db before now Answers c.args.drives.now c.lay_database.new.drives c.in-Err.error c.requires.count c.requires.fresh c.in-Err.ensures.kept c.in-Err.ensures.err)
 
 pub returns-in-Err-read_database-clause-made : goal.returns-in-Err-read_database-clause-made
 returns-in-Err-read_database-clause-made g c = λ before now.
     let may = c.requires.answerable.stored in
     rw c.from-in-Err-read_database.ensures
     (read_made g.D.Drive (read_of c.args.checked.now) c.args.db before now c.args.drives.now c.lay_database.new.drives c.read_database.new.drives c.in-Ok.laid c.requires.count c.requires.fresh c.in-Ok.ensures.kept
-    c.in-Ok.ensures.laid c.in-Err-read_database.ensures.read c.in-Err-read_database.error c.in-Err-read_database.ensures.err
+    c.in-Ok.ensures.laid c.in-Err-read_database.ensures.read Answers c.in-Err-read_database.error c.in-Err-read_database.ensures.err
     (λ bad tell is. c.in-Err-read_database.ensures.accepted c.args.db bad (columns_agree c.args.checked.now.catalog c.args.db may.count may.each) tell (ap (λ (e : FetchErr). Err e) is)))
 
 pub answers-requires : goal.answers-requires

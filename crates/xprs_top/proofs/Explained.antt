@@ -1,0 +1,95 @@
+-- Plans over tables that are laid on drives.
+use Rattle.std.proofs.Common.{◌≡◌, ◌≤◌, ◌<◌, ℕ, zero, suc, List, [], ◌∷◌, length, map, get_or, Some, Result, Ok, Err, refl, sym, subst, arith, IfErr, IfOk}
+use Rattle.std.specs.Prelude.{slice_get, All}
+use Rattle.std.specs.Global.{Vec}
+use Rattle.xp_outside.specs.declared.drive.Drive.{Ghosts}
+use Rattle.heap_page.specs.declared.errors.BadPage.{BadPage}
+use Rattle.heap_page.specs.declared.errors.FetchErr.{FetchErr}
+use Rattle.heap_page.specs.declared.errors.FetchErr.TheVariants as fetch
+use Rattle.heap_page.specs.Stores.{AreRead}
+use Rattle.rows.specs.declared.plain.Relation.{Relation}
+use Rattle.rel_meaning.specs.declared.query.Table.{Table}
+use Rattle.table_store.specs.declared.database.Laid.{Laid}
+use Rattle.table_store.specs.declared.files.StoredTable.{StoredTable}
+use Rattle.table_store.specs.Databases.{AllFresh, AreKept, IsLaidOut, MayStore}
+use Rattle.table_store.specs.Images.{HoldImage}
+use Rattle.table_store.specs.Readings.{AllTell}
+use Rattle.table_store.proofs.Laying.{kept_reading}
+use Rattle.table_store.proofs.Pages.{there}
+use Rattle.plan_tree.specs.declared.tree.Method.{Method}
+use Rattle.plan_tree.specs.declared.tree.Plan.{Plan}
+use Rattle.plan_tree.specs.Views.{planned_of}
+use Rattle.query_planner.specs.Causes.{PlanCause}
+use Rattle.query_planner.specs.Stored.{AreOf, Stands}
+use Rattle.query_planner.specs.Plans.{AreBestPlans}
+use Rattle.query_planner.proofs.Stored.{are_of}
+use Rattle.xprs_top.specs.declared.status.Status.{Status}
+use Rattle.xprs_top.specs.declared.status.Status.TheVariants.{Done, Usage, Refused, ShelfFault, DriveFault, Bad, SinkFault, NoMemory, DriveFull, NotBuilt}
+use Rattle.xprs_top.specs.declared.goal.Goal.TheVariants.{Plans}
+use Rattle.xprs_top.specs.Devices.{Fit, Makes}
+use Rattle.xprs_top.specs.Readings.{Checked, over}
+use Rattle.xprs_top.specs.Statuses.{of_fetch}
+use Rattle.xprs_top.specs.Texts.{Explains}
+use Rattle.xprs_top.proofs.Devices.{image_read, is_fit, tell_before, untold}
+
+-- ---- what is counted
+
+-- what a place has
+here : {X : Type 0} (xs : List X) (i : ℕ) (d : X) → i < length xs → slice_get xs i ≡ Some (get_or xs i d)
+here [] i d lt = absurd (omega (arith, lt))
+here (x ∷ xs) zero d lt = refl
+here (x ∷ xs) (suc i) d lt = here xs i d (omega (arith, lt))
+
+-- no table has more than 1,000,000 rows
+pub few_rows : (relations : List Relation) (db : List Table) → MayStore relations db → All (λ t. length t.rows ≤ 1000000) db
+few_rows relations db may = λ k d lt.
+    let relation = there relations k (omega (arith, lt, may.count)) in (may.each k relation.0 (get_or db k d) relation.1 (here db k d lt)).short.0
+
+module _ {D : Type 0} (g : Ghosts D) where
+  -- tables that are laid out are counted right
+  pub counted : (relations : List Relation) (db : List Table) (olds mids : List D) (laid : Laid) (rows : List ℕ) (out : IsLaidOut g relations db olds mids laid) → MayStore relations db → length olds ≡ 4 →
+      rows ≡ map (λ (t : Table). length t.rows) db → AreOf relations rows laid 4 out.tables
+  counted relations db olds mids laid rows out may count is = are_of relations db out.tables rows 4 laid may out.stored out.storable (rw (← count) out.are) is
+
+  pub stands : (relations : List Relation) (db : List Table) (olds mids : List D) (laid : Laid) (rows : List ℕ) (drives : ℕ) (out : IsLaidOut g relations db olds mids laid) → MayStore relations db → length olds ≡ 4 →
+      rows ≡ map (λ (t : Table). length t.rows) db → drives ≡ 4 → Stands relations rows laid drives
+  stands relations db olds mids laid rows drives out may count is n = rw n (record { tables = out.tables; are = counted relations db olds mids laid rows out may count is })
+
+  -- ---- the text of the plans
+
+  module _ (checked : Checked) (db : List Table) (before now : ℕ) (m : Method) (olds mids news : List D) (laid : Laid) (count : length olds ≡ 4) (fresh : AllFresh g olds) (kept : AreKept g olds mids)
+      (out : IsLaidOut g checked.catalog db olds mids laid) (read : AreRead g mids news) (rows : List ℕ) (are : AreOf checked.catalog rows laid 4 out.tables) where
+    all_mids : AllTell g news → AllTell g mids
+    all_mids all = tell_before g mids news (kept_reading g mids news read) all
+
+    -- which plans are made over told drives
+    abbrev pub Planned : Result (List Plan) FetchErr → Type 0
+    Planned plans = (tables : List StoredTable) → AreOf checked.catalog rows laid 4 tables → HoldImage g laid.map tables mids → AllTell g mids → IfOk plans (λ ps. AreBestPlans checked.catalog tables m checked.questions (map planned_of ps))
+
+    abbrev pub NeverBad : Result (List Plan) FetchErr → Type 0
+    NeverBad plans = (tables : List StoredTable) (bad : BadPage) → AreOf checked.catalog rows laid 4 tables → HoldImage g laid.map tables mids → AllTell g mids → plans ≡ Err (fetch.BadPage bad) → ⊥
+
+    abbrev fit : Fit g checked.catalog db news
+    fit = is_fit g checked db before now olds mids news laid count fresh kept out read
+
+    made_err : (e : FetchErr) → PlanCause g laid mids news e → NeverBad (Err e) → Makes g (over (Plans m) checked db) before now news (Err (of_fetch e))
+    made_err (fetch.DriveFault d) cause never = (fit, record { drive = cause.new; here = cause.is; some = omega (arith, cause.rose) })
+    made_err (fetch.BadPage bad) cause never = (fit, untold g news (λ all. never out.tables bad are (out.image fresh) (all_mids all) refl))
+    made_err fetch.NoMemory cause never = tt
+
+    pub made_plans : (plans : Result (List Plan) FetchErr) (text : Result (Vec ℕ) Status) → Planned plans → NeverBad plans → IfErr plans (PlanCause g laid mids news) → Explains plans text → Makes g (over (Plans m) checked db) before now news text
+    made_plans (Ok ps) (Ok text) told never cause shows = (
+      (fit, image_read g laid.map out.tables mids news read (out.image fresh)),
+      λ all. record { tables = out.tables; stored = out.stored; plans = map planned_of ps; best = told out.tables are (out.image fresh) (all_mids all); is = shows },
+    )
+    made_plans (Ok ps) (Err NoMemory) told never cause shows = tt
+    made_plans (Ok ps) (Err Done) told never cause shows = absurd shows
+    made_plans (Ok ps) (Err Usage) told never cause shows = absurd shows
+    made_plans (Ok ps) (Err (Refused r)) told never cause shows = absurd shows
+    made_plans (Ok ps) (Err ShelfFault) told never cause shows = absurd shows
+    made_plans (Ok ps) (Err (DriveFault d)) told never cause shows = absurd shows
+    made_plans (Ok ps) (Err (Bad bad)) told never cause shows = absurd shows
+    made_plans (Ok ps) (Err SinkFault) told never cause shows = absurd shows
+    made_plans (Ok ps) (Err (DriveFull d needs capacity)) told never cause shows = absurd shows
+    made_plans (Ok ps) (Err NotBuilt) told never cause shows = absurd shows
+    made_plans (Err e) text told never cause shows = subst (Makes g (over (Plans m) checked db) before now news) (sym shows) (made_err e cause never)

@@ -1,0 +1,56 @@
+use Rattle.std.proofs.Common.{◌≡◌, ◌∙◌, sym, subst, ap, length, drop, take, ◌++◌, arith, Err}
+use Rattle.table_store.specs.Databases.{AllFresh}
+use Rattle.xprs_top.specs.declared.goal.Goal.TheVariants.{Plans}
+use Rattle.xprs_top.specs.Devices.{Makes}
+use Rattle.xprs_top.specs.Inputs.{read_of}
+use Rattle.xprs_top.specs.Readings.{over}
+use Rattle.xprs_top.proofs.Devices.{lay_made, whole_slice}
+use Rattle.xprs_top.proofs.Explained.{counted, made_plans, stands}
+use Rattle.xprs_top.proofs.explaining.explained.Goals as goal
+
+pub returns-in-Err-clause-made : goal.returns-in-Err-clause-made
+returns-in-Err-clause-made g c = λ before now.
+    let olds = c.as_mut_slice.result.now in
+    let mids = c.lay_counted.new.drives in
+    let count : length olds ≡ 4 = ap length c.as_mut_slice.ensures.value ∙ c.requires.count in
+    let fresh : AllFresh g.D.Drive olds = rw c.as_mut_slice.ensures.value c.requires.fresh in
+    let same : c.args.drives.len ≡ length mids = omega (arith, c.in-Err.ensures.kept.len, count, c.requires.count, c.args.drives.ok) in
+    let job = over (Plans c.args.method) (read_of c.args.checked.now) c.args.db in
+    subst (λ ds. Makes g.D.Drive job before now ds (Err c.from.result)) (sym (whole_slice c.args.drives.len mids (drop (length mids) c.args.drives.items) same))
+    (subst (λ s. Makes g.D.Drive job before now mids (Err s)) (sym c.from.ensures)
+    (lay_made g.D.Drive (read_of c.args.checked.now) c.args.db before now (Plans c.args.method) olds mids c.in-Err.error count fresh c.in-Err.ensures.kept c.in-Err.ensures.err))
+
+pub plan_queries-plans-requires-clause-stands : goal.plan_queries-plans-requires-clause-stands
+plan_queries-plans-requires-clause-stands g c =
+    let olds = c.as_mut_slice.result.now in
+    let count : length olds ≡ 4 = ap length c.as_mut_slice.ensures.value ∙ c.requires.count in
+    stands g.D.Drive c.args.checked.now.catalog c.args.db olds c.lay_counted.new.drives c.in-Ok.counted.laid c.as_slice.result.now c.args.drives.len c.in-Ok.ensures.laid c.requires.answerable.stored count
+    (c.as_slice.ensures.value ∙ c.in-Ok.ensures.rows) (omega (arith, c.requires.count, c.args.drives.ok))
+
+pub plan_queries-plans-requires-clause-room : goal.plan_queries-plans-requires-clause-room
+plan_queries-plans-requires-clause-room g c =
+    let olds = c.as_mut_slice.result.now in
+    let mids = c.lay_counted.new.drives in
+    let count : length olds ≡ 4 = ap length c.as_mut_slice.ensures.value ∙ c.requires.count in
+    let same : c.args.drives.len ≡ length mids = omega (arith, c.in-Ok.ensures.kept.len, count, c.requires.count, c.args.drives.ok) in
+    rw (whole_slice c.args.drives.len mids (drop (length mids) c.args.drives.items) same) c.in-Ok.ensures.laid.room
+
+pub returns-clause-made : goal.returns-clause-made
+returns-clause-made g c = λ before now.
+    let olds = c.as_mut_slice.result.now in
+    let mids = c.lay_counted.new.drives in
+    let handed = take c.args.drives.len (mids ++ drop (length mids) c.args.drives.items) in
+    let count : length olds ≡ 4 = ap length c.as_mut_slice.ensures.value ∙ c.requires.count in
+    let fresh : AllFresh g.D.Drive olds = rw c.as_mut_slice.ensures.value c.requires.fresh in
+    let same : c.args.drives.len ≡ length mids = omega (arith, c.in-Ok.ensures.kept.len, count, c.requires.count, c.args.drives.ok) in
+    let whole : handed ≡ mids = whole_slice c.args.drives.len mids (drop (length mids) c.args.drives.items) same in
+    let four : c.args.drives.len ≡ 4 = omega (arith, c.requires.count, c.args.drives.ok) in
+    let rows = c.as_slice.result.now in
+    let laid = c.in-Ok.counted.laid in
+    let numbers = c.as_slice.ensures.value ∙ c.in-Ok.ensures.rows in
+    made_plans g.D.Drive (read_of c.args.checked.now) c.args.db before now c.args.method olds mids c.plan_queries-plans.result.drives.items laid count fresh c.in-Ok.ensures.kept c.in-Ok.ensures.laid
+    (rw (← whole) c.plan_queries-plans.ensures.read) rows (counted g.D.Drive c.args.checked.now.catalog c.args.db olds mids laid rows c.in-Ok.ensures.laid c.requires.answerable.stored count numbers)
+    c.plan_queries-plans.result.plans c.plans_text.result
+    (rw (← whole, ← four, ← c.items-queries.ensures) c.plan_queries-plans.ensures.plans)
+    (rw (← whole, ← four) c.plan_queries-plans.ensures.accepted)
+    (rw (← whole) c.plan_queries-plans.ensures.err) c.plans_text.ensures

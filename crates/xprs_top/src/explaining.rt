@@ -1,0 +1,121 @@
+//! The plans of statements over tables on drives.
+ghost use Rattle.std.specs.Prelude.{◌≡◌, ◌≤◌, ℕ, IfOk, IfErr, All, length, map};
+ghost use Rattle.rows.specs.declared.plain.Relation.{Relation};
+ghost use Rattle.table_store.specs.Databases.{AllFresh, AreKept, IsLaidOut, LayoutCause, MayStore};
+ghost use Rattle.xprs_top.specs.declared.goal.Goal.TheVariants.{Plans};
+ghost use Rattle.xprs_top.specs.Devices.{Makes};
+ghost use Rattle.xprs_top.specs.Inputs.{read_of};
+ghost use Rattle.xprs_top.specs.Readings.{over};
+ghost use Rattle.xprs_top.specs.Tasks.{IsAnswerable};
+ghost use Rattle.xprs_top.specs.Texts.{Explains};
+
+use crate::Status;
+use crate::input::Checked;
+use crate::made::Made;
+use heap_page::{FetchErr, StoreErr};
+use lists::Sequence;
+use plan_tree::{Method, PlanList, explain_text};
+use query_planner::{Planned, plan_queries};
+use rel_meaning::Database;
+use rows::{Catalog, Machine};
+use std::alloc::{AllocError, Global};
+use table_store::{Laid, lay_database};
+use xp_outside::Drive;
+
+/// The machine that explanations are for.
+const START: Machine = Machine {
+    backends: 4,
+    drives: 4,
+    batch: 8,
+};
+
+// Tables on drives, and how many rows each of them has.
+struct Counted {
+    laid: Laid,
+    rows: Vec<u32>,
+}
+
+// How many rows each table has.
+fn row_counts(alloc: Global, db: &Database) -> Result<Vec<u32>, AllocError>
+    requires { All (λ t. length t.rows ≤ 1000000) db.now }
+    ensures { IfOk result (λ counts. counts.items ≡ map (λ t. length t.rows) db.now) }
+{
+    let mut counts = Vec::with_capacity(alloc, db.len())?;
+    for table in db.items() {
+        counts.push(table.rows.len() as u32)?;
+    }
+    Ok(counts)
+}
+
+// Lays tables on drives.
+fn lay_counted<D: Drive>(
+    alloc: Global,
+    drives: &mut [D],
+    catalog: &Catalog,
+    db: Database,
+) -> Result<Counted, StoreErr>
+    requires count { length drives.old ≡ 4 }
+    requires stored { MayStore catalog.now db }
+    ensures kept { AreKept D.Drive drives.old drives.new }
+    ensures laid { IfOk result (λ c. IsLaidOut D.Drive catalog.now db drives.old drives.new c.laid) }
+    ensures rows { IfOk result (λ c. c.rows.items ≡ map (λ t. length t.rows) db) }
+    ensures err { IfErr result (LayoutCause D.Drive catalog.now db drives.old drives.new) }
+{
+    let rows = row_counts(alloc, &db)?;
+    let laid = lay_database(alloc, drives, catalog, db)?;
+    Ok(Counted { laid, rows })
+}
+
+// The text of plans that were made.
+fn plans_text(alloc: Global, plans: Result<PlanList, FetchErr>) -> Result<Vec<u8>, Status>
+    ensures { Explains plans result }
+{
+    let plans = plans?;
+    let fragments = Sequence::new(alloc);
+    Ok(explain_text(alloc, &plans, &fragments, &START)?)
+}
+
+/// The plans of a checked script over its tables, which are laid on these drives.
+pub(crate) fn explained<D: Drive>(
+    alloc: Global,
+    drives: Vec<D>,
+    checked: &Checked,
+    db: Database,
+    method: Method,
+) -> Made<D>
+    requires count { length drives.items ≡ 4 }
+    requires fresh { AllFresh D.Drive drives.items }
+    requires answerable { IsAnswerable checked.now db }
+    ensures count { length result.drives.items ≡ 4 }
+    ensures made { (before now : ℕ) → Makes D.Drive (over (Plans method) (read_of checked.now) db) before now result.drives.items result.text }
+{
+    let mut drives = drives;
+    let Counted { laid, rows } = match lay_counted(
+        alloc,
+        drives.as_mut_slice(),
+        &checked.catalog,
+        db,
+    ) {
+        Ok(counted) => counted,
+        Err(error) => {
+            return Made {
+                text: Err(Status::from(error)),
+                drives,
+            };
+        }
+    };
+    let queries = checked.read.queries.items();
+    let Planned { plans, drives } = plan_queries(
+        alloc,
+        drives,
+        &laid,
+        &checked.catalog,
+        rows.as_slice(),
+        queries,
+        method,
+    );
+    Made {
+        text: plans_text(alloc, plans),
+        drives,
+    }
+}

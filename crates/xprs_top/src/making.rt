@@ -1,0 +1,76 @@
+//! Doing what a run is to do.
+ghost use Rattle.std.specs.Prelude.{◌≡◌, ℕ, [], length};
+ghost use Rattle.table_store.specs.Databases.{AllFresh};
+ghost use Rattle.xprs_top.specs.Devices.{IsCount, Makes};
+ghost use Rattle.xprs_top.specs.Inputs.{job_of, read_of};
+ghost use Rattle.xprs_top.specs.Readings.{over};
+ghost use Rattle.xprs_top.specs.Tasks.{IsAnswerable, IsPrint, IsReady};
+
+use crate::Status;
+use crate::answering::answered;
+use crate::explaining::explained;
+use crate::goal::Goal;
+use crate::input::Checked;
+use crate::made::{Made, unmade};
+use crate::task::Task;
+use rel_meaning::Database;
+use std::alloc::Global;
+use xp_outside::{Drive, Rack, RackErr};
+
+/// How many drives a run mounts.
+const DRIVES: u32 = 4;
+
+// What is asked for of a checked script and its tables, by way of these drives.
+fn on_drives<D: Drive>(
+    alloc: Global,
+    drives: Vec<D>,
+    goal: Goal,
+    checked: &Checked,
+    db: Database,
+) -> Made<D>
+    requires count { length drives.items ≡ 4 }
+    requires fresh { AllFresh D.Drive drives.items }
+    requires answerable { IsAnswerable checked.now db }
+    ensures count { length result.drives.items ≡ 4 }
+    ensures made { (before now : ℕ) → Makes D.Drive (over goal (read_of checked.now) db) before now result.drives.items result.text }
+{
+    match goal {
+        Goal::Answers => answered(alloc, drives, checked, db),
+        Goal::Plans(method) => explained(alloc, drives, checked, db, method),
+    }
+}
+
+// The same, for which drives are mounted.
+fn over_tables<K: Rack>(
+    alloc: Global,
+    rack: &mut K,
+    goal: Goal,
+    checked: &Checked,
+    db: Database,
+) -> Made<K::Drive>
+    requires { IsAnswerable checked.now db }
+    ensures made { Makes K.Drive.Drive (over goal (read_of checked.now) db) (K.faults rack.old) (K.faults rack.new) result.drives.items result.text }
+    ensures count { IsCount (length result.drives.items) }
+{
+    match rack.mount(alloc, DRIVES) {
+        Ok(drives) => on_drives(alloc, drives, goal, checked, db),
+        Err(RackErr::Failed) => unmade(alloc, Status::DriveFault(None)),
+        Err(RackErr::NoMemory) => unmade(alloc, Status::NoMemory),
+    }
+}
+
+/// Does a task.
+pub(crate) fn make<K: Rack>(alloc: Global, rack: &mut K, task: Task) -> Made<K::Drive>
+    requires { IsReady task }
+    ensures made { Makes K.Drive.Drive (job_of task) (K.faults rack.old) (K.faults rack.new) result.drives.items result.text }
+    ensures count { IsCount (length result.drives.items) }
+    ensures print { IsPrint task → (rack.new ≡ rack.old) × (result.drives.items ≡ []) }
+{
+    match task {
+        Task::Print(text) => Made {
+            text: Ok(text),
+            drives: Vec::new(alloc),
+        },
+        Task::Over { goal, checked, db } => over_tables(alloc, rack, goal, &checked, db),
+    }
+}
