@@ -97,7 +97,7 @@ fn lay<D: Drive + Drop>(alloc: Global, mut drives: Vec<D>) -> Result<Ground<D>, 
     let table = table(alloc)?;
     let rows = vec![in alloc; table.rows.len() as u32]?;
     let db = Sequence::from_vec(vec![in alloc; table]?);
-    match lay_database(alloc, &mut drives, &relations, db) {
+    match lay_database(alloc, &mut drives, &relations, &db) {
         Ok(laid) => Ok(Ground {
             relations,
             rows,

@@ -1,7 +1,7 @@
 -- Databases that are laid on drives.
-use Rattle.std.proofs.Common.{◌≡◌, ℕ, zero, suc, ◌+◌, ◌<◌, ◌≤◌, List, [], ◌∷◌, ◌++◌, length, drop, Option, Some, None, Result, Ok, Err, refl, sym, ap, subst, ◌∙◌, arith, inl, inr, IfOk, IfErr, IfSome}
+use Rattle.std.proofs.Common.{◌≡◌, ℕ, zero, suc, ◌+◌, ◌<◌, ◌≤◌, List, [], ◌∷◌, ◌++◌, length, Option, Some, None, Result, Ok, Err, refl, sym, ap, subst, ◌∙◌, arith, inl, inr, IfOk, IfErr, IfSome}
 use Rattle.std.specs.Prelude.{slice_get, is_some, replicate, All}
-use Rattle.std.proofs.lemmas.List.{length-append, length-drop, length-map, length-replicate, get_or-replicate}
+use Rattle.std.proofs.lemmas.List.{length-append, length-map, length-replicate, get_or-replicate}
 use Rattle.std.proofs.lemmas.List.Elements.{All-map, All-push}
 use Rattle.std.proofs.lemmas.Option.{slice_get-get_or}
 use Rattle.xp_outside.specs.Drives.{IsFresh, IsZero}
@@ -74,42 +74,6 @@ one_encoded relations db count tables relation table stored h here row is fits =
         rw (← same, ← other, ← k.1) is)
   ];
   storable = All-push IsStorable tables stored h.storable fits;
-}
-
--- a list behind some of its items
-pub here : {X : Type 0} (xs : List X) (n : ℕ) (x : X) (rest : List X) → drop n xs ≡ x ∷ rest → (n < length xs) × (slice_get xs n ≡ Some x) × (drop (n + 1) xs ≡ rest)
-here [] zero x rest e = absurd cc
-here [] (suc n) x rest e = absurd cc
-here (y ∷ ys) zero x rest e = (omega arith, cc, cc)
-here (y ∷ ys) (suc n) x rest e =
-    let h = here ys n x rest e in
-    let k : suc n + 1 ≡ suc (n + 1) = omega arith in
-    (omega (arith, h.0), h.1, rw k h.2)
-
--- the tables so far, and those that are left
-pub record Left (relations : List Relation) (db : List Table) (tables : List StoredTable) (rest : List Table) : Type 0 where
-  pub encoded : Encoded relations db (length tables) tables
-  pub within : length tables ≤ length db
-  pub left : drop (length tables) db ≡ rest
-
-pub all_left : (relations : List Relation) (db : List Table) → Left relations db [] db
-all_left relations db = record { encoded = none_encoded relations db; within = omega arith; left = refl }
-
-pub next_left : (relations : List Relation) (db : List Table) (tables : List StoredTable) (relation : Relation) (table : Table) (stored : StoredTable) (rest : List Table) → Left relations db tables (table ∷ rest) →
-    slice_get relations (length tables) ≡ Some relation → IsStored relation table stored → IsStorable stored → Left relations db (tables ++ stored ∷ []) rest
-next_left relations db tables relation table stored rest h at is fits =
-    let t = here db (length tables) table rest h.left in
-    let n : length (tables ++ stored ∷ []) ≡ length tables + 1 = length-append tables (stored ∷ []) in
-    record {
-      encoded = rw n (one_encoded relations db (length tables) tables relation table stored h.encoded at t.1 is fits);
-      within = omega (arith, n, t.0);
-      left = rw n t.2;
-    }
-
-pub none_left : (relations : List Relation) (db : List Table) (tables : List StoredTable) (rest : List Table) → length db ≡ length relations → Left relations db tables rest → length rest ≡ 0 → AreStored relations db tables
-none_left relations db tables rest same h none = record {
-  count = omega (arith, same, none, h.within, ap length h.left, length-drop (length tables) db);
-  each = h.encoded.each;
 }
 
 -- the numbers of the heap files so far

@@ -12,7 +12,7 @@ ghost use Rattle.table_store.specs.Images.{HoldImage};
 ghost use Rattle.table_store.specs.Readings.{AllTell, TellRows};
 
 use crate::entries::entries_of;
-use crate::files::{index_numbers, items_from};
+use crate::files::index_numbers;
 use crate::{StoredIndex, StoredTable, file_map, heap_file_number, items_of, write_tables};
 use heap_page::{FileMap, StoreErr};
 use rel_meaning::{Database, Table};
@@ -48,44 +48,42 @@ fn indexed_table(
     Ok(StoredTable { items, index })
 }
 
-// A table that has no index, as it is stored. Each row is given up as soon as its bytes are made.
-fn plain_table(alloc: Global, relation: &Relation, table: Table) -> Result<StoredTable, NoMemory>
-    requires table { IsTableOf relation.now table }
+// A table that has no index, as it is stored.
+fn plain_table(alloc: Global, relation: &Relation, table: &Table) -> Result<StoredTable, NoMemory>
+    requires table { IsTableOf relation.now table.now }
     requires none { relation.now.index ≡ None }
-    ensures stored { IfOk result (IsStored relation.now table) }
+    ensures stored { IfOk result (IsStored relation.now table.now) }
     ensures storable { IfOk result IsStorable }
 {
-    let Table { columns, rows } = table;
-    let items = items_from(alloc, rows, &columns)?;
+    let items = items_of(alloc, &table.rows, &table.columns)?;
     Ok(StoredTable { items, index: None })
 }
 
-// A table as it is stored. The table itself is given up.
-fn stored_table(alloc: Global, relation: &Relation, table: Table) -> Result<StoredTable, NoMemory>
-    requires { IsTableOf relation.now table }
-    ensures stored { IfOk result (IsStored relation.now table) }
+// A table as it is stored.
+fn stored_table(alloc: Global, relation: &Relation, table: &Table) -> Result<StoredTable, NoMemory>
+    requires { IsTableOf relation.now table.now }
+    ensures stored { IfOk result (IsStored relation.now table.now) }
     ensures storable { IfOk result IsStorable }
 {
     match relation.index {
-        Some(column) => indexed_table(alloc, relation, &table, column),
+        Some(column) => indexed_table(alloc, relation, table, column),
         None => plain_table(alloc, relation, table),
     }
 }
 
-// The tables of a database as they are stored. The database itself is given up.
+// The tables of a database as they are stored.
 fn stored_tables(
     alloc: Global,
     catalog: &Catalog,
-    db: Database,
+    db: &Database,
 ) -> Result<Vec<StoredTable>, NoMemory>
-    requires { MayStore catalog.now db }
-    ensures stored { IfOk result (λ tables. AreStored catalog.now db tables.items) }
+    requires { MayStore catalog.now db.now }
+    ensures stored { IfOk result (λ tables. AreStored catalog.now db.now tables.items) }
     ensures storable { IfOk result (λ tables. All IsStorable tables.items) }
 {
     let mut tables = Vec::new(alloc);
-    for table in db.into_vec() {
-        let relation = catalog.get(tables.len());
-        tables.push(stored_table(alloc, relation, table)?)?;
+    for (place, relation) in catalog.items().iter().enumerate() {
+        tables.push(stored_table(alloc, relation, db.get(place))?)?;
     }
     Ok(tables)
 }
@@ -153,14 +151,14 @@ pub fn lay_database<D: Drive>(
     alloc: Global,
     drives: &mut [D],
     catalog: &Catalog,
-    db: Database,
+    db: &Database,
 ) -> Result<Laid, StoreErr>
     requires some { 0 < length drives.old }
     requires count { length drives.old < 2 ^ 32 }
-    requires stored { MayStore catalog.now db }
+    requires stored { MayStore catalog.now db.now }
     ensures kept { AreKept D.Drive drives.old drives.new }
-    ensures laid { IfOk result (IsLaidOut D.Drive catalog.now db drives.old drives.new) }
-    ensures err { IfErr result (LayoutCause D.Drive catalog.now db drives.old drives.new) }
+    ensures laid { IfOk result (IsLaidOut D.Drive catalog.now db.now drives.old drives.new) }
+    ensures err { IfErr result (LayoutCause D.Drive catalog.now db.now drives.old drives.new) }
 {
     let tables = stored_tables(alloc, catalog, db)?;
     lay(alloc, drives, tables.as_slice())

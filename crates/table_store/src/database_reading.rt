@@ -1,5 +1,5 @@
 //! Databases read back from drives.
-ghost use Rattle.std.specs.Prelude.{◌≡◌, ◌<◌, ℕ, List, Some, Err, IfOk, IfErr, All, length, map, slice_get};
+ghost use Rattle.std.specs.Prelude.{◌≡◌, ◌<◌, ℕ, List, [], Some, Err, IfOk, IfErr, MatchOption, All, length, map, slice_get};
 ghost use Rattle.heap_page.specs.declared.errors.BadPage.{BadPage};
 ghost use Rattle.heap_page.specs.declared.errors.FetchErr.TheVariants as fetch;
 ghost use Rattle.heap_page.specs.Maps.{IsMap};
@@ -16,7 +16,7 @@ use crate::reading::read_table;
 use heap_page::FetchErr;
 use lists::{Duplicate, Sequence};
 use rel_meaning::{Database, Table};
-use rows::{Catalog, Column, Relation};
+use rows::{Catalog, Column, Relation, Rows};
 use std::alloc::{AllocError, Global};
 use xp_outside::Drive;
 
@@ -41,6 +41,7 @@ fn read_relation<D: Drive>(
     laid: &Laid,
     heap: u32,
     relation: &Relation,
+    spent: Rows,
 ) -> Result<Table, FetchErr>
     requires map { IsMap laid.now.map }
     requires drives { length drives.old ≡ laid.now.map.drives }
@@ -54,22 +55,34 @@ fn read_relation<D: Drive>(
     ensures accepted { (rows : List (List Value)) (bad : BadPage) → TellRows D.Drive laid.now.map heap relation.now.columns rows drives.old → result ≡ Err (fetch.BadPage bad) → ⊥ }
     ensures err { IfErr result (ReadCause D.Drive laid.now drives.old drives.new) }
 {
-    let rows = read_table(alloc, drives, &laid.map, heap, &relation.columns)?;
+    let rows = read_table(alloc, drives, &laid.map, heap, &relation.columns, spent)?;
     Ok(Table {
         columns: Sequence::from_vec(copied(alloc, relation.columns.items())?),
         rows,
     })
 }
 
+// The rows of a table, and no row where there is none.
+fn rows_of(alloc: Global, table: Option<Table>) -> Rows
+    ensures { MatchOption table (result ≡ []) (λ t. result ≡ t.rows) }
+{
+    match table {
+        Some(table) => table.rows,
+        None => Sequence::new(alloc),
+    }
+}
+
 /// The tables of a database that was laid on drives, read back page by page. They have the columns of the relations, and
 /// their rows are of these columns, whatever the drives tell. Drives that tell the rows of a database give just that
 /// database, and no `BadPage`. `DriveFault` comes only where that drive's count rises. `BadPage` has a page of a heap file and
-/// the first rule that it breaks. Each drive keeps its number of pages and all that it tells.
+/// the first rule that it breaks. Each drive keeps its number of pages and all that it tells. The rows take the places of those
+/// of `spent`, whatever these are: each of them is given up when a row is read, so that its memory serves the next one.
 pub fn read_database<D: Drive>(
     alloc: Global,
     drives: &mut [D],
     laid: &Laid,
     catalog: &Catalog,
+    spent: Database,
 ) -> Result<Database, FetchErr>
     requires map { IsMap laid.now.map }
     requires drives { length drives.old ≡ laid.now.map.drives }
@@ -83,10 +96,12 @@ pub fn read_database<D: Drive>(
     ensures accepted { (db : List Table) (bad : BadPage) → map (λ t. t.columns) db ≡ map (λ r. r.columns) catalog.now → TellTables D.Drive laid.now db drives.old → result ≡ Err (fetch.BadPage bad) → ⊥ }
     ensures err { IfErr result (ReadCause D.Drive laid.now drives.old drives.new) }
 {
+    let mut spent = spent.into_vec().into_iter();
     let mut tables = Vec::new(alloc);
     for (place, relation) in catalog.items().iter().enumerate() {
         let heap = laid.heaps[place];
-        tables.push(read_relation(alloc, drives, laid, heap, relation)?)?;
+        let places = rows_of(alloc, spent.next());
+        tables.push(read_relation(alloc, drives, laid, heap, relation, places)?)?;
     }
     Ok(Sequence::from_vec(tables))
 }

@@ -55,24 +55,6 @@ pub fn items_of(alloc: Global, rows: &Rows, columns: &ColumnList) -> Result<Item
     Ok(items)
 }
 
-// The same of rows that are given up one by one.
-pub(crate) fn items_from(
-    alloc: Global,
-    rows: Rows,
-    columns: &ColumnList,
-) -> Result<ItemList, NoMemory>
-    requires few { length columns.now ≤ 32 }
-    requires rows { All (IsRowOf columns.now) rows }
-    ensures { IfOk result (λ items. items ≡ encodings columns.now rows) }
-{
-    let mut items = ItemList::new(alloc);
-    let mut scratch = Vec::new(alloc);
-    for row in rows.into_vec() {
-        push_row(&mut items, &mut scratch, &row, columns)?;
-    }
-    Ok(items)
-}
-
 // How many pages a table's heap file has.
 pub(crate) fn heap_pages(table: &StoredTable) -> u32
     requires { IsStorable table.now }

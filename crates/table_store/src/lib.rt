@@ -7,6 +7,7 @@ mod entries;
 mod files;
 mod page_rows;
 mod reading;
+mod row_buffer;
 #[cfg(test)]
 mod tests;
 mod writing;

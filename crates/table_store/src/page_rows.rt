@@ -4,8 +4,9 @@ ghost use Rattle.heap_page.specs.Pages.{fault_of, items_of};
 ghost use Rattle.heap_page.specs.declared.errors.FetchErr.TheVariants as fetch;
 ghost use Rattle.table_store.specs.Steps.{Added, IsBad};
 
+use crate::row_buffer::RowBuffer;
 use heap_page::{BadPage, FetchErr, Page, PageView, read_page};
-use rows::{ColumnList, Row, decode_row};
+use rows::{ColumnList, decode_row};
 use std::alloc::{AllocError, Global};
 
 // Adds the rows of a page. It is false where an item is no row.
@@ -13,9 +14,9 @@ fn add_rows(
     alloc: Global,
     view: &PageView<'_>,
     columns: &ColumnList,
-    rows: &mut Vec<Row>,
+    rows: &mut RowBuffer,
 ) -> Result<bool, AllocError>
-    ensures { IfOk result (Added columns.now view.now rows.old.items rows.new.items) }
+    ensures { IfOk result (Added columns.now view.now rows.old rows.new) }
 {
     for slot in 0..view.count() {
         match decode_row(alloc, view.item(slot), columns)? {
@@ -33,9 +34,9 @@ pub(crate) fn add_page(
     file: u32,
     number: u32,
     columns: &ColumnList,
-    rows: &mut Vec<Row>,
+    rows: &mut RowBuffer,
 ) -> Result<(), FetchErr>
-    ensures { MatchResult result (λ _. (fault_of file number page.now ≡ None) × Added columns.now (items_of page.now) rows.old.items rows.new.items true) (IsBad columns.now file number page.now) }
+    ensures { MatchResult result (λ _. (fault_of file number page.now ≡ None) × Added columns.now (items_of page.now) rows.old rows.new true) (IsBad columns.now file number page.now) }
 {
     match read_page(page.bytes(), file, number) {
         Ok(view) => {

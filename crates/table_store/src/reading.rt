@@ -11,6 +11,7 @@ ghost use Rattle.table_store.specs.Readings.{AreFileRows, TableCause, TellRows};
 ghost use Rattle.table_store.specs.Steps.{IsStep};
 
 use crate::page_rows::add_page;
+use crate::row_buffer::RowBuffer;
 use heap_page::{FetchErr, FileMap, block_laws, read_relation_page};
 use lists::Sequence;
 use rows::{ColumnList, Row, Rows};
@@ -25,14 +26,14 @@ fn read_page_rows<D: Drive>(
     file: u32,
     number: u32,
     columns: &ColumnList,
-    rows: &mut Vec<Row>,
+    rows: &mut RowBuffer,
 ) -> Result<(), FetchErr>
     requires map { IsMap map.now }
     requires drives { length drives.old ≡ map.now.drives }
     requires page { HasPage map.now.files.items file number }
     requires room { HaveRoom D.Drive map.now drives.old }
     ensures read { AreRead D.Drive drives.old drives.new }
-    ensures ok { OnOk result (IsStep D.Drive map.now file columns.now drives.old number rows.old.items rows.new.items) }
+    ensures ok { OnOk result (IsStep D.Drive map.now file columns.now drives.old number rows.old rows.new) }
     ensures err { IfErr result (TableCause D.Drive map.now file columns.now drives.old drives.new) }
 {
     let page = read_relation_page(alloc, drives, map, file, number)?;
@@ -47,6 +48,7 @@ fn read_pages<D: Drive>(
     file: u32,
     count: u32,
     columns: &ColumnList,
+    spent: Vec<Row>,
 ) -> Result<Vec<Row>, FetchErr>
     requires map { IsMap map.now }
     requires drives { length drives.old ≡ map.now.drives }
@@ -56,23 +58,26 @@ fn read_pages<D: Drive>(
     ensures ok { IfOk result (λ rows. AreFileRows D.Drive map.now file columns.now drives.old rows.items) }
     ensures err { IfErr result (TableCause D.Drive map.now file columns.now drives.old drives.new) }
 {
-    let mut rows = Vec::new(alloc);
+    let mut rows = RowBuffer::over(spent);
     for number in 0..count {
         read_page_rows(alloc, drives, map, file, number, columns, &mut rows)?;
     }
-    Ok(rows)
+    Ok(rows.into_vec())
 }
 
 /// The rows of a table's file, read page by page in order. They are rows of the columns, whatever the drives tell; each
 /// page breaks none of a heap page's rules, its items are the encodings of its rows (rule 9), and it is the page at its
 /// address, where the drive tells. `DriveFault` comes only where that drive's count rises. `BadPage` has the first rule
-/// that a page of the file breaks. Drives that tell the pages of some rows give just these rows, and no `BadPage`. Each drive keeps its number of pages and all that it tells.
+/// that a page of the file breaks. Drives that tell the pages of some rows give just these rows, and no `BadPage`. Each drive
+/// keeps its number of pages and all that it tells. The rows take the places of `spent`, whatever these are: each of them
+/// is given up when a row is read, so that its memory serves the next one.
 pub fn read_table<D: Drive>(
     alloc: Global,
     drives: &mut [D],
     map: &FileMap,
     file: u32,
     columns: &ColumnList,
+    spent: Rows,
 ) -> Result<Rows, FetchErr>
     requires map { IsMap map.now }
     requires drives { length drives.old ≡ map.now.drives }
@@ -89,6 +94,6 @@ pub fn read_table<D: Drive>(
 {
     block_laws();
     let count = map.files[file as usize].pages;
-    let rows = read_pages(alloc, drives, map, file, count, columns)?;
+    let rows = read_pages(alloc, drives, map, file, count, columns, spent.into_vec())?;
     Ok(Sequence::from_vec(rows))
 }

@@ -117,7 +117,7 @@ fn write_and_read<D: Drive>(
     if file as usize >= map.files.len() {
         return Ok(Err(FetchErr::NoMemory));
     }
-    match read_table(alloc, drives, &map, file, &columns) {
+    match read_table(alloc, drives, &map, file, &columns, Rows::new(alloc)) {
         Ok(rows) => Ok(Ok(items_of(alloc, &rows, &columns)?)),
         Err(error) => Ok(Err(error)),
     }

@@ -64,7 +64,8 @@ fn answers(alloc: Global, db: &Database, queries: &[Query]) -> Result<Vec<u8>, A
     with_answers(alloc, text, db, rest)
 }
 
-// The answers of a checked script over its tables, which are laid on drives and read back.
+// The answers of a checked script over its tables, which are laid on drives and read back. The rows that are read
+// take the places of those that were laid.
 fn laid_answers<D: Drive>(
     alloc: Global,
     drives: &mut [D],
@@ -77,11 +78,11 @@ fn laid_answers<D: Drive>(
     ensures count { length drives.new ≡ 4 }
     ensures made { (before now : ℕ) → Makes D.Drive (over Answers (read_of checked.now) db) before now drives.new result }
 {
-    let laid = match lay_database(alloc, drives, &checked.catalog, db) {
+    let laid = match lay_database(alloc, drives, &checked.catalog, &db) {
         Ok(laid) => laid,
         Err(error) => return Err(Status::from(error)),
     };
-    let db = match read_database(alloc, drives, &laid, &checked.catalog) {
+    let db = match read_database(alloc, drives, &laid, &checked.catalog, db) {
         Ok(db) => db,
         Err(error) => return Err(Status::from(error)),
     };

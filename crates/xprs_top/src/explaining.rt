@@ -62,7 +62,7 @@ fn lay_counted<D: Drive>(
     ensures err { IfErr result (LayoutCause D.Drive catalog.now db drives.old drives.new) }
 {
     let rows = row_counts(alloc, &db)?;
-    let laid = lay_database(alloc, drives, catalog, db)?;
+    let laid = lay_database(alloc, drives, catalog, &db)?;
     Ok(Counted { laid, rows })
 }
 

@@ -1,6 +1,9 @@
 use Rattle.std.proofs.lemmas.Result.{err_from_is_err_and}
-use Rattle.table_store.proofs.Pages.{room_read, read_trans, cause_earlier, more}
+use Rattle.table_store.proofs.Pages.{room_read, read_trans, cause_earlier, more, starts}
 use Rattle.table_store.proofs.reading.read_pages.Goals as goal
+
+pub loop-number-init : goal.loop-number-init
+loop-number-init g c = rw c.over-rows.ensures (starts g.D.Drive c.args.map.now c.args.file c.args.columns.now c.args.drives.now)
 
 pub read_page_rows-requires-clause-room : goal.read_page_rows-requires-clause-room
 read_page_rows-requires-clause-room g c = room_read g.D.Drive c.args.map.now c.args.drives.now c.loop-number.drives c.loop-number.invariant.read c.requires.room
@@ -16,5 +19,5 @@ returns-in_err-read_page_rows-clause-err g c =
 
 pub loop-number-preserved : goal.loop-number-preserved
 loop-number-preserved g c =
-    more g.D.Drive c.args.map.now c.args.file c.args.columns.now c.args.drives.now c.loop-number.drives c.read_page_rows.new.drives c.loop-number.number c.loop-number.rows.items c.read_page_rows.new.rows.items
+    more g.D.Drive c.args.map.now c.args.file c.args.columns.now c.args.drives.now c.loop-number.drives c.read_page_rows.new.drives c.loop-number.number c.loop-number.rows c.read_page_rows.new.rows
     c.loop-number.invariant c.in_ok-read_page_rows.ensures.ok c.read_page_rows.ensures.read
