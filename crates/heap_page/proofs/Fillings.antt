@@ -1,14 +1,10 @@
 -- Filling pages one after the other.
-use Rattle.std.proofs.Common.{◌≡◌, ℕ, zero, suc, ◌+◌, ◌*◌, ◌/◌, ◌<◌, ◌≤◌, List, [], ◌∷◌, ◌++◌, length, get_or, drop, ◌^◌, Option, Some, None, refl, sym, ap, subst, ◌∙◌, arith, inl, inr}
-use Rattle.std.specs.Prelude.{slice_get, ◌⊎◌, IfErr, Result, Ok, Err}
+use Rattle.std.proofs.Common.{◌≡◌, ℕ, zero, suc, ◌+◌, ◌*◌, ◌<◌, ◌≤◌, List, [], ◌∷◌, ◌++◌, length, get_or, drop, ◌^◌, Some, refl, sym, ap, subst, ◌∙◌, arith, inl, inr}
+use Rattle.std.specs.Prelude.{slice_get, ◌⊎◌}
 use Rattle.std.proofs.lemmas.Bool.{cases_lt}
 use Rattle.std.proofs.lemmas.List.{length-drop, drop_all}
-use Rattle.std.proofs.lemmas.Nat.{div-add-mod'}
-use Rattle.xp_outside.specs.Outside.{Rose}
 use Rattle.xp_outside.specs.declared.drive.Drive.{Ghosts}
 use Rattle.heap_page.specs.declared.map.FileMap.{FileMap}
-use Rattle.heap_page.specs.declared.errors.StoreErr.{StoreErr}
-use Rattle.heap_page.specs.declared.errors.StoreErr.TheVariants.{DriveFault, DriveFull, NoMemory}
 use Rattle.heap_page.specs.Pages.{Fits, total, page_of, IsHeapPage}
 use Rattle.heap_page.specs.Pushes.{Pushes}
 use Rattle.heap_page.specs.declared.page.Push.TheVariants.{Pushed, NoRoom}
@@ -16,11 +12,12 @@ use Rattle.heap_page.proofs.Pushed.{pushes_on}
 use Rattle.heap_page.proofs.Written.{page_again}
 use Rattle.heap_page.proofs.Striping.{file_pages}
 use Rattle.heap_page.specs.Blocks.{weight_of, item_weight, laid}
-use Rattle.heap_page.specs.Maps.{drive_of, address_of, base, IsMap, IsPlace, HasPage, HasPages}
-use Rattle.heap_page.specs.Stores.{TellsAt, KeepsBut, IsWritten, AreWritten, Stand, HaveRoom, StoreCause}
+use Rattle.heap_page.specs.Maps.{drive_of, address_of, IsMap, IsPlace, HasPage, HasPages}
+use Rattle.heap_page.specs.Stores.{TellsAt, AreWritten, Stand, HaveRoom}
 use Rattle.heap_page.proofs.Cut.{begins, laid_more, laid_next, laid_end}
 use Rattle.heap_page.proofs.Counted.{items_here}
-use Rattle.heap_page.proofs.Found.{get_below}
+use Rattle.heap_page.proofs.Drives.{apart, room_kept, tells_kept, wrote_none, wrote_trans}
+use Rattle.heap_page.proofs.Found.{get_below, there}
 
 weight_is : (items : List (List ℕ)) → weight_of item_weight items ≡ 4 * length items + total items
 weight_is [] = refl
@@ -28,9 +25,6 @@ weight_is (x ∷ xs) = omega (arith, weight_is xs)
 
 over : (items : List (List ℕ)) → (Fits items → ⊥) → 8172 < weight_of item_weight items
 over items h = elim (cases_lt 8172 (weight_of item_weight items)) [ inl lt ↦ lt | inr le ↦ absurd (h (omega (arith, le, weight_is items))) ]
-
-rose_earlier : (a b c : ℕ) → a ≤ b → Rose b c → Rose a c
-rose_earlier a b c le h = omega (arith, le, h)
 
 pub drop_head : {X : Type 0} (n : ℕ) (xs : List X) (y d : X) (ys : List X) → drop n xs ≡ y ∷ ys → (n < length xs) × (get_or xs n d ≡ y) × (drop (n + 1) xs ≡ ys)
 drop_head zero [] y d ys e = absurd cc
@@ -41,89 +35,12 @@ drop_head (suc n) (x ∷ xs) y d ys e =
     let k : suc n + 1 ≡ suc (n + 1) = omega arith in
     (omega (arith, h.0), h.1, rw k h.2)
 
-pub if_err_map : {T E : Type 0} (r : Result T E) (P Q : E → Type 0) → ((e : E) → P e → Q e) → IfErr r P → IfErr r Q
-if_err_map (Ok x) P Q f h = tt
-if_err_map (Err e) P Q f h = f e h
-
 pub some_get : {X : Type 0} (xs : List X) (i : ℕ) (x d : X) → slice_get xs i ≡ Some x → (i < length xs) × (get_or xs i d ≡ x)
 some_get [] i x d e = absurd cc
 some_get (y ∷ xs) zero x d e = (omega arith, cc)
 some_get (y ∷ xs) (suc i) x d e = let h = some_get xs i x d e in (omega (arith, h.0), h.1)
 
 module _ {D : Type 0} (g : Ghosts D) where
-  keeps_trans : (P Q R : ℕ → Type 0) (a b c : Option (List (List ℕ))) → ((x : ℕ) → P x → R x) → ((x : ℕ) → Q x → R x) → KeepsBut P a b → KeepsBut Q b c → KeepsBut R a c
-  keeps_trans P Q R None None None p q h k = tt
-  keeps_trans P Q R None None (Some f) p q h k = k
-  keeps_trans P Q R None (Some f) c p q h k = elim h [ ]
-  keeps_trans P Q R (Some f) None c p q h k = elim h [ ]
-  keeps_trans P Q R (Some f) (Some f2) None p q h k = k
-  keeps_trans P Q R (Some f) (Some f2) (Some f3) p q h k = (k.0 ∙ h.0, λ x out. k.1 x (λ w. out (q x w)) ∙ h.1 x (λ w. out (p x w)))
-
-  there : (xs : List D) (d : ℕ) → d < length xs → (x : D) × (slice_get xs d ≡ Some x)
-  there [] d lt = absurd (omega arith)
-  there (x ∷ xs) zero lt = (x, refl)
-  there (x ∷ xs) (suc d) lt = there xs d (omega arith)
-
-  pub wrote_trans : (P Q R : ℕ → ℕ → Type 0) (us bs cs : List D) → ((d x : ℕ) → P d x → R d x) → ((d x : ℕ) → Q d x → R d x) → AreWritten g P us bs → AreWritten g Q bs cs → AreWritten g R us cs
-  wrote_trans P Q R us bs cs p q h k = record {
-    len = k.len ∙ h.len;
-    each = λ d a c at_a at_c.
-        let lt : d < length bs = omega (arith, get_below us d a at_a, h.len) in
-        let b = there bs d lt in
-        let one = h.each d a b.0 at_a b.1 in
-        let two = k.each d b.0 c b.1 at_c in
-        record {
-          size = two.size ∙ one.size;
-          count = omega (arith, one.count, two.count);
-          others = keeps_trans (P d) (Q d) (R d) (g.pages a) (g.pages b.0) (g.pages c) (p d) (q d) one.others two.others;
-        };
-  }
-
-  keeps_none : (a : Option (List (List ℕ))) (P : ℕ → Type 0) → KeepsBut P a a
-  keeps_none None P = tt
-  keeps_none (Some f) P = (refl, λ x out. refl)
-
-  some_is : (x y : D) → Some x ≡ Some y → x ≡ y
-  some_is x y e = cc
-
-  pub wrote_none : (P : ℕ → ℕ → Type 0) (us : List D) → AreWritten g P us us
-  wrote_none P us = record {
-    len = refl;
-    each = λ d a b at_a at_b.
-        let e : a ≡ b = some_is a b (sym at_a ∙ at_b) in
-        subst (λ (x : D). IsWritten g (P d) a x) e (record { size = refl; count = omega arith; others = keeps_none (g.pages a) (P d) });
-  }
-
-  pub room_kept : (map : FileMap) (P : ℕ → ℕ → Type 0) (us bs : List D) → AreWritten g P us bs → HaveRoom g map us → HaveRoom g map bs
-  room_kept map P us bs h room = λ d b at_b.
-      let lt : d < length us = omega (arith, get_below bs d b at_b, h.len) in
-      let a = there us d lt in
-      omega (arith, (h.each d a.0 b a.1 at_b).size, room d a.0 a.1)
-
-  pub cause_later : (map : FileMap) (P : ℕ → ℕ → Type 0) (us bs cs : List D) (e : StoreErr) → AreWritten g P us bs → StoreCause g map bs cs e → HaveRoom g map us → StoreCause g map us cs e
-  cause_later map P us bs cs (DriveFault d) h cause room =
-      let f = cause.1 in
-      let a = there us d (omega (arith, get_below bs d f.old f.was, h.len)) in
-      (room, record { old = a.0; new = f.new; was = a.1; is = f.is; rose = rose_earlier _ _ _ (h.each d a.0 f.old a.1 f.was).count f.rose })
-  cause_later map P us bs cs (DriveFull d needs capacity) h cause room =
-      let f = cause.0 in
-      let r = room_kept map P us bs h room d f.drive f.here in
-      absurd (omega (arith, r, f.needs_is, f.capacity_is, f.small))
-  cause_later map P us bs cs NoMemory h cause room = room
-
-  tells_kept : (P : ℕ → Type 0) (old new : Option (List (List ℕ))) (a : ℕ) (bytes : List ℕ) → KeepsBut P old new → (P a → ⊥) → TellsAt old a bytes → TellsAt new a bytes
-  tells_kept P None None a bytes k out h = tt
-  tells_kept P None (Some f) a bytes k out h = elim k [ ]
-  tells_kept P (Some f) None a bytes k out h = tt
-  tells_kept P (Some f) (Some f2) a bytes k out h = λ page at. h page (sym (k.1 a out) ∙ at)
-
-  apart : (map : FileMap) (file p n : ℕ) → p < n → drive_of map p ≡ drive_of map n → address_of map file p ≡ address_of map file n → ⊥
-  apart map file p n lt same e =
-      let b : base map file (drive_of map p) ≡ base map file (drive_of map n) = ap (base map file) same in
-      let one : p / map.drives ≡ n / map.drives = omega (arith, e, b) in
-      let two : p / map.drives * map.drives ≡ n / map.drives * map.drives = ap (λ (q : ℕ). q * map.drives) one in
-      absurd (omega (arith, two, same, div-add-mod' p map.drives, div-add-mod' n map.drives))
-
   -- the first n pages stand at their addresses
   abbrev pub Stands : FileMap → ℕ → ℕ → (ℕ → List ℕ) → List D → Type 0
   Stands map file n pages drives = (p : ℕ) (drive : D) → p < n → slice_get drives (drive_of map p) ≡ Some drive → TellsAt (g.pages drive) (address_of map file p) (pages p)
@@ -166,7 +83,7 @@ module _ {D : Type 0} (g : Ghosts D) where
       left = b;
       page_is = e;
       fits_page = omega arith;
-      wrote = wrote_none (IsPlace map file) olds;
+      wrote = wrote_none g (IsPlace map file) olds;
       stands = λ p c lt at_c. absurd (omega arith);
       room = room;
       len = len;
@@ -210,7 +127,7 @@ module _ {D : Type 0} (g : Ghosts D) where
     wrote_more : (number : ℕ) (bs cs : List D) → number < length blocks → AreWritten g (IsPlace map file) olds bs →
         AreWritten g (λ d a. (d ≡ drive_of map number) × (a ≡ address_of map file number)) bs cs → AreWritten g (IsPlace map file) olds cs
     wrote_more number bs cs lt h w =
-        wrote_trans (IsPlace map file) (λ d a. (d ≡ drive_of map number) × (a ≡ address_of map file number)) (IsPlace map file) olds bs cs (λ d x k. k) (λ d x k. is_place number d x lt k) h w
+        wrote_trans g (IsPlace map file) (λ d a. (d ≡ drive_of map number) × (a ≡ address_of map file number)) (IsPlace map file) olds bs cs (λ d x k. k) (λ d x k. is_place number d x lt k) h w
 
     pub stored : (number : ℕ) (page page1 : List ℕ) (rest : List (List ℕ)) (bs cs : List D) (after : List (List (List ℕ))) (part : List (List ℕ)) → Filling map file blocks olds number page rest bs →
         drop number blocks ≡ part ∷ after → page1 ≡ page_of file number part →
@@ -240,7 +157,7 @@ module _ {D : Type 0} (g : Ghosts D) where
           fits_page = omega arith;
           wrote = both.0;
           stands = both.1;
-          room = room_kept map (λ d a. (d ≡ drive_of map number) × (a ≡ address_of map file number)) bs cs w s.room;
+          room = room_kept g map (λ d a. (d ≡ drive_of map number) × (a ≡ address_of map file number)) bs cs w s.room;
           len = w.len ∙ s.len;
         }
 

@@ -4,9 +4,10 @@ mod Written
 mod Read
 mod Pushed
 mod Views
-mod Striping
+pub mod Striping
 pub mod Cut
 mod Counted
 mod Itemised
-mod Found
+pub mod Found
+pub mod Drives
 mod Fillings

@@ -1,9 +1,10 @@
-//! Numbers of fixed width in a page.
-ghost use Rattle.std.specs.Prelude.{◌≡◌, ◌+◌, ◌≤◌, ◌++◌, length, take, drop};
+//! Parts of a page: its numbers of fixed width, and zeros.
+ghost use Rattle.std.specs.Prelude.{◌≡◌, ◌==◌, ◌+◌, ◌≤◌, length};
+ghost use Rattle.std.specs.List.{list_all};
 ghost use Rattle.heap_page.specs.Fields.{short_at, long_at, overwritten};
 
-// The number of two bytes.
-pub(crate) fn read_short(bytes: &[u8], at: usize) -> u16
+/// The number of the two bytes from a place on, the highest first.
+pub fn read_short(bytes: &[u8], at: usize) -> u16
     requires { at + 2 ≤ length bytes.now }
     ensures { result ≡ short_at bytes.now at }
 {
@@ -11,13 +12,20 @@ pub(crate) fn read_short(bytes: &[u8], at: usize) -> u16
     u16::from_be_bytes([field[0], field[1]])
 }
 
-// The number of four bytes.
-pub(crate) fn read_long(bytes: &[u8], at: usize) -> u32
+/// The number of the four bytes from a place on, the highest first.
+pub fn read_long(bytes: &[u8], at: usize) -> u32
     requires { at + 4 ≤ length bytes.now }
     ensures { result ≡ long_at bytes.now at }
 {
     let field = &bytes[at..at + 4];
     u32::from_be_bytes([field[0], field[1], field[2], field[3]])
+}
+
+/// Whether every byte is zero.
+pub fn are_zeros(bytes: &[u8]) -> bool
+    ensures { result ≡ list_all (λ b. b == 0) bytes.now }
+{
+    bytes.iter().all(|byte| *byte == 0)
 }
 
 // Writes a part over the bytes from a place on.

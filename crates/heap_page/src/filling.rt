@@ -6,55 +6,9 @@ ghost use Rattle.heap_page.specs.Maps.{IsMap, IsPlace, HasPage, HasPages, drive_
 ghost use Rattle.heap_page.specs.Pages.{page_of};
 ghost use Rattle.heap_page.specs.Stores.{AreWritten, HaveRoom, Stand, StoreCause, TellsAt};
 
-use crate::{FileMap, ItemList, Page, Push, StoreErr};
+use crate::{FileMap, ItemList, Page, Push, StoreErr, check_room, store_page};
 use std::alloc::Global;
 use xp_outside::{Drive, NoMemory};
-
-// Whether each drive has the pages that the map needs.
-fn check_room<D: Drive>(drives: &[D], map: &FileMap) -> Result<(), StoreErr>
-    requires map { IsMap map.now }
-    requires drives { length drives.now ≡ map.now.drives }
-    ensures ok { OnOk result (HaveRoom D.Drive map.now drives.now) }
-    ensures err { IfErr result (StoreCause D.Drive map.now drives.now drives.now) }
-{
-    let _count = map.drives;
-    for (place, drive) in drives.iter().enumerate() {
-        let needs = map.needs(place as u32);
-        let capacity = drive.capacity();
-        if needs > capacity as u64 {
-            return Err(StoreErr::DriveFull {
-                drive: place as u32,
-                needs,
-                capacity,
-            });
-        }
-    }
-    Ok(())
-}
-
-// Writes one page.
-fn store<D: Drive>(
-    drives: &mut [D],
-    map: &FileMap,
-    file: u32,
-    number: u32,
-    page: &Page,
-) -> Result<(), StoreErr>
-    requires map { IsMap map.now }
-    requires drives { length drives.old ≡ map.now.drives }
-    requires page { HasPage map.now.files.items file number }
-    requires room { HaveRoom D.Drive map.now drives.old }
-    ensures written { AreWritten D.Drive (λ d a. (d ≡ drive_of map.now number) × (a ≡ address_of map.now file number)) drives.old drives.new }
-    ensures ok { OnOk result ((drive : _) → slice_get drives.new (drive_of map.now number) ≡ Some drive → TellsAt (D.pages drive) (address_of map.now file number) page.now) }
-    ensures err { IfErr result (StoreCause D.Drive map.now drives.old drives.new) }
-{
-    let (place, address) = map.place(file, number);
-    let drive = &mut drives[place as usize];
-    match drive.write(address, page.bytes()) {
-        Ok(()) => Ok(()),
-        Err(_) => Err(StoreErr::DriveFault(place)),
-    }
-}
 
 // A page with one item.
 fn start_page(alloc: Global, file: u32, number: u32, item: &[u8]) -> Result<Page, NoMemory>
@@ -89,7 +43,7 @@ fn turn_page<D: Drive>(
     ensures page { OnOk result (page.new ≡ page_of file (number + 1) (item.now ∷ [])) }
     ensures err { IfErr result (StoreCause D.Drive map.now drives.old drives.new) }
 {
-    store(drives, map, file, number, page)?;
+    store_page(drives, map, file, number, page)?;
     *page = start_page(alloc, file, number + 1, item)?;
     Ok(())
 }
@@ -124,7 +78,7 @@ fn write_pages<D: Drive>(
             }
         }
     }
-    store(drives, map, file, number, &page)
+    store_page(drives, map, file, number, &page)
 }
 
 /// Writes the pages of a table, a new one exactly where the next item doesn't fit. The map gives the file as many pages

@@ -1,10 +1,9 @@
 //! A heap page that was accepted.
-ghost use Rattle.std.specs.Prelude.{◌≡◌, ◌==◌, ◌<◌, ◌≤◌, ◌+◌, ◌*◌, MatchResult, length, slice_get, Some, None};
+ghost use Rattle.std.specs.Prelude.{◌≡◌, ◌<◌, ◌≤◌, ◌+◌, ◌*◌, MatchResult, length, slice_get, Some, None};
 ghost use Rattle.heap_page.specs.Fields.{short_at};
-ghost use Rattle.std.specs.List.{list_all};
 ghost use Rattle.heap_page.specs.Pages.{body_fault, fault_of, items_of, is_stacked, item_at};
 
-use crate::field::read_short;
+use crate::field::{are_zeros, read_short};
 use crate::head::{FileKind, check_head};
 use std::marker::Model;
 use xp_outside::PAGE;
@@ -42,13 +41,6 @@ fn ends_well(bytes: &[u8], count: usize, upper: usize) -> bool
         top = offset;
     }
     top == upper
-}
-
-// Whether every byte is zero.
-fn are_zeros(bytes: &[u8]) -> bool
-    ensures { result ≡ list_all (λ b. b == 0) bytes.now }
-{
-    bytes.iter().all(|byte| *byte == 0)
 }
 
 // Tells the first broken rule behind the head.

@@ -15,7 +15,8 @@ use Rattle.key_index.specs.Levels.{AreLevels, base_at, firsts, items_at, levels_
 use Rattle.key_index.specs.Searches.{IsIndexPage, Leads}
 use Rattle.key_index.proofs.Descents.{IsIndex}
 use Rattle.key_index.proofs.Fronts.{numbered}
-use Rattle.key_index.proofs.Keys.{AreItems, key_small, weight_bounds}
+use Rattle.rows.proofs.RowValues.{value_small}
+use Rattle.key_index.proofs.Keys.{AreItems, weight_bounds}
 use Rattle.key_index.proofs.Levels.{at_level}
 use Rattle.key_index.proofs.Made.{IsSmall, few_levels, few_pages, levels_made}
 use Rattle.key_index.proofs.Numbers.{Numbered}
@@ -129,7 +130,7 @@ good_entries t heap pages n s (e ∷ es) h le = ((h.0.0, h.0.1, h.0.2, omega (ar
 
 small_entries : (t : ColType) (heap s : ℕ) (es : List KeyEntry) → AllByRecursion (IsEntry t heap) es → AllByRecursion IsSmall (items_from s es)
 small_entries t heap s [] h = tt
-small_entries t heap s (e ∷ es) h = (key_small t e.key h.0.0, small_entries t heap (suc s) es h.1)
+small_entries t heap s (e ∷ es) h = (value_small t e.key h.0.0, small_entries t heap (suc s) es h.1)
 
 leads_above : (t : ColType) (index : KeyIndex) (level : ℕ) (es : List Item) → AllByRecursion (Good t index.heap_pages index.pages index.entries level) es → AllByRecursion (Leads index level) es
 leads_above t index level [] h = tt
@@ -169,8 +170,8 @@ block_fits level (suc n) (c ∷ b) h lt = block_fits level n b h.1 (omega arith)
 
 few_in : (t : ColType) (heap pages n level : ℕ) (es : List Item) → AllByRecursion (Good t heap pages n level) es → length es ≤ weight_of (weight level) es
 few_in t heap pages n level [] h = omega arith
-few_in t heap pages n zero (e ∷ es) h = omega (arith, (weight_bounds zero e (key_small t e.key h.0.0)).0, few_in t heap pages n zero es h.1)
-few_in t heap pages n (suc level) (e ∷ es) h = omega (arith, (weight_bounds (suc level) e (key_small t e.key h.0.0)).0, few_in t heap pages n (suc level) es h.1)
+few_in t heap pages n zero (e ∷ es) h = omega (arith, (weight_bounds zero e (value_small t e.key h.0.0)).0, few_in t heap pages n zero es h.1)
+few_in t heap pages n (suc level) (e ∷ es) h = omega (arith, (weight_bounds (suc level) e (value_small t e.key h.0.0)).0, few_in t heap pages n (suc level) es h.1)
 
 pub length-items : (n : ℕ) (entries : List KeyEntry) → length (items_from n entries) ≡ length entries
 length-items n [] = refl

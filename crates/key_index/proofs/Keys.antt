@@ -1,69 +1,14 @@
 -- Keys and items read again from their bytes.
-use Rattle.std.proofs.Common.{◌≡◌, ℕ, ℤ, zero, suc, ◌^◌, ◌<◌, ◌≤◌, Bool, true, false, ltb, List, [], ◌∷◌, ◌++◌, length, take, refl, sym, ap, ◌∙◌, arith, Some, IsTrue, le-ltb, append_assoc, length-append, take_at, drop_at, FitsSigned, to_z-of_z, flat_map}
-use Rattle.std.specs.Int.{w16, w32, from_be_bytes, to_be_bytes, cast_unsigned}
-use Rattle.std.specs.Str.{is_utf8}
-use Rattle.std.proofs.Math.Facts.{Fits-lt-pow, Fits-of_z}
+use Rattle.std.proofs.Common.{◌≡◌, ℕ, zero, suc, ◌^◌, ◌<◌, ◌≤◌, false, ltb, List, [], ◌∷◌, ◌++◌, length, refl, sym, ap, arith, Some, le-ltb, append_assoc, length-append, flat_map}
 use Rattle.std.proofs.lemmas.Nat.{from_be_bytes-to_be_bytes_2, from_be_bytes-to_be_bytes_4}
 use Rattle.heap_page.specs.Fields.{short_at, long_at}
 use Rattle.rows.specs.declared.field.ColType.{ColType}
-use Rattle.rows.specs.declared.field.ColType.TheVariants as col
 use Rattle.rows.specs.declared.value.Value.{Value}
-use Rattle.rows.specs.declared.value.Value.TheVariants.{Null, Number, Word, Truth}
 use Rattle.rows.specs.RowBytes.{IsOfType, value_bytes}
-use Rattle.rows.specs.RowFields.{integer_front, text_front, truth_front, typed_front}
+use Rattle.rows.proofs.RowValues.{typed_again}
 use Rattle.key_index.specs.Bytes.{item_bytes, tail_bytes, weight}
 use Rattle.key_index.specs.Entries.{Item}
 use Rattle.key_index.specs.Readings.{item_front, items_in, prepend, tail_front}
-
-integer_again : (n : ℤ) (rest : List ℕ) → FitsSigned w32 n → integer_front (value_bytes (Number n) ++ rest) ≡ Some (Number n, rest)
-integer_again n rest fits =
-    let bytes = to_be_bytes w32 (cast_unsigned w32 n) in
-    let enough : ltb (length (bytes ++ rest)) 4 ≡ false = le-ltb (length (bytes ++ rest)) 4 (omega (arith, length-append bytes rest)) in
-    let number : from_be_bytes w32 (take 4 (bytes ++ rest)) ≡ cast_unsigned w32 n = ap (from_be_bytes w32) (take_at bytes rest 4 refl) ∙ from_be_bytes-to_be_bytes_4 (cast_unsigned w32 n) (Fits-lt-pow (Fits-of_z fits)) in
-    rw (enough, number, to_z-of_z fits, drop_at bytes rest 4 refl) refl
-
-text_again : (w : List ℕ) (rest : List ℕ) → IsTrue (is_utf8 w) → length w ≤ 2000 → text_front (value_bytes (Word w) ++ rest) ≡ Some (Word w, rest)
-text_again w rest utf8 short =
-    let size = to_be_bytes w16 (length w) in
-    let enough : ltb (length (size ++ (w ++ rest))) 2 ≡ false = le-ltb (length (size ++ (w ++ rest))) 2 (omega (arith, length-append size (w ++ rest))) in
-    let number : from_be_bytes w16 (take 2 (size ++ (w ++ rest))) ≡ length w = ap (from_be_bytes w16) (take_at size (w ++ rest) 2 refl) ∙ from_be_bytes-to_be_bytes_2 (length w) (omega (arith, short)) in
-    let long : ltb 2000 (length w) ≡ false = le-ltb 2000 (length w) short in
-    let there : ltb (length (w ++ rest)) (length w) ≡ false = le-ltb (length (w ++ rest)) (length w) (omega (arith, length-append w rest)) in
-    rw (enough, number, drop_at size (w ++ rest) 2 refl, long, there, take_at w rest (length w) refl, utf8, drop_at w rest (length w) refl) refl
-
-truth_again : (b : Bool) (rest : List ℕ) → truth_front (value_bytes (Truth b) ++ rest) ≡ Some (Truth b, rest)
-truth_again true rest = refl
-truth_again false rest = refl
-
-key_again : (t : ColType) (v : Value) (rest : List ℕ) → IsOfType t v → typed_front t (value_bytes v ++ rest) ≡ Some (v, rest)
-key_again col.Int4 Null rest h = elim h [ ]
-key_again col.Int4 (Number n) rest h = integer_again n rest h
-key_again col.Int4 (Word w) rest h = elim h [ ]
-key_again col.Int4 (Truth b) rest h = elim h [ ]
-key_again col.Text Null rest h = elim h [ ]
-key_again col.Text (Number n) rest h = elim h [ ]
-key_again col.Text (Word w) rest h = text_again w rest h.0 h.1
-key_again col.Text (Truth b) rest h = elim h [ ]
-key_again col.Bool Null rest h = elim h [ ]
-key_again col.Bool (Number n) rest h = elim h [ ]
-key_again col.Bool (Word w) rest h = elim h [ ]
-key_again col.Bool (Truth b) rest h = truth_again b rest
-
--- a key takes at most 2,002 bytes
-pub key_small : (t : ColType) (v : Value) → IsOfType t v → length (value_bytes v) ≤ 2002
-key_small col.Int4 Null h = elim h [ ]
-key_small col.Int4 (Number n) h = omega arith
-key_small col.Int4 (Word w) h = elim h [ ]
-key_small col.Int4 (Truth b) h = elim h [ ]
-key_small col.Text Null h = elim h [ ]
-key_small col.Text (Number n) h = elim h [ ]
-key_small col.Text (Word w) h = omega (arith, h.1)
-key_small col.Text (Truth b) h = elim h [ ]
-key_small col.Bool Null h = elim h [ ]
-key_small col.Bool (Number n) h = elim h [ ]
-key_small col.Bool (Word w) h = elim h [ ]
-key_small col.Bool (Truth true) h = omega arith
-key_small col.Bool (Truth false) h = omega arith
 
 -- ---- items
 
@@ -97,7 +42,7 @@ key_of t (suc level) number e h = h.0
 
 item_again : (t : ColType) (level number : ℕ) (e : Item) (more : List ℕ) → IsItem t level number e → item_front t level number (item_bytes level e ++ more) ≡ Some (e, more)
 item_again t level number e more h =
-    rw (append_assoc (value_bytes e.key) (tail_bytes level e) more, key_again t e.key (tail_bytes level e ++ more) (key_of t level number e h)) (tail_again t level number e more h)
+    rw (append_assoc (value_bytes e.key) (tail_bytes level e) more, typed_again t e.key (tail_bytes level e ++ more) (key_of t level number e h)) (tail_again t level number e more h)
 
 -- what was written is read again
 pub read_again : (t : ColType) (level number : ℕ) (items : List Item) (rest : List ℕ) → AreItems t level number items → items_in t level number (length items) (flat_map (item_bytes level) items ++ rest) ≡ Some (items, rest)

@@ -14,7 +14,6 @@ mod Searches
 mod Fronts
 mod Narrowings
 mod PageBytes
-mod Found
 mod Drives
 mod LevelLaws
 mod Ordered

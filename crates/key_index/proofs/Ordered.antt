@@ -12,7 +12,7 @@ use Rattle.lists.specs.Arranged.{Ascends}
 use Rattle.rows.specs.declared.field.ColType.{ColType}
 use Rattle.rows.specs.declared.plain.KeyEntry.{KeyEntry}
 use Rattle.rows.proofs.Orders.{value_total}
-use Rattle.key_index.proofs.Found.{get_below, one_at, some_at}
+use Rattle.heap_page.proofs.Found.{get_below, one_at, some_at}
 use Rattle.key_index.specs.Entries.{AreEntries, Follows, IsEntry, entry_cmp}
 
 pub entry_total : IsTotalOrder entry_cmp

@@ -4,8 +4,7 @@ ghost use Rattle.std.specs.Str.{is_utf8};
 ghost use Rattle.rows.specs.RowBytes.{IsOfType};
 ghost use Rattle.key_index.specs.Entries.{AreEntries, Follows, IsEntry, entry_cmp};
 
-use crate::key::is_text;
-use rows::{ColType, KeyEntry, KeyEntryList, Value, compare};
+use rows::{ColType, KeyEntry, KeyEntryList, Value, compare, is_text};
 use std::cmp::Ordering;
 
 /// The order of entries: by key, then by heap page, then by slot.

@@ -7,9 +7,9 @@ ghost use Rattle.key_index.specs.Fixed.{IsFine, offset_of};
 ghost use Rattle.key_index.specs.Readings.{items_in, page_fault};
 
 use crate::aim::Aim;
-use crate::field::{are_zeros, read_short};
 use crate::page_entry::{Entry, Step};
 use crate::reading::{is_counted, read_entry};
+use heap_page::{are_zeros, read_short};
 use rows::ColType;
 
 // The byte where the entry at a place begins.

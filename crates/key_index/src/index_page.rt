@@ -3,14 +3,12 @@ ghost use Rattle.std.specs.Prelude.{◌≡◌, ◌+◌, ◌++◌, ◌^◌, ◌<�
 ghost use Rattle.std.specs.Int.{w16, w32, to_be_bytes};
 ghost use Rattle.std.specs.List.{flat_map};
 ghost use Rattle.heap_page.specs.Pages.{zeros};
-ghost use Rattle.rows.specs.RowBytes.{value_bytes};
-ghost use Rattle.rows.specs.RowFields.{IsStorable};
 ghost use Rattle.key_index.specs.Bytes.{head_of, item_bytes, page_of, tail_bytes};
 ghost use Rattle.key_index.specs.Nodes.{AreKeys, IsNode, node_item, node_items};
 
 use crate::node::Node;
 use heap_page::Page;
-use rows::{KeyEntry, Value};
+use rows::{KeyEntry, put_value};
 use std::alloc::Global;
 use xp_outside::{NoMemory, PAGE};
 
@@ -32,23 +30,6 @@ fn put_head(
     out.extend_from_slice(&number.to_be_bytes())?;
     out.extend_from_slice(&level.to_be_bytes())?;
     out.extend_from_slice(&0u16.to_be_bytes())?;
-    Ok(())
-}
-
-// Adds a key.
-fn put_key(out: &mut Vec<u8>, key: &Value) -> Result<(), NoMemory>
-    requires { IsStorable key.now }
-    ensures { OnOk result (out.new.items ≡ out.old.items ++ value_bytes key.now) }
-{
-    match key {
-        Value::Null => {}
-        Value::Number(number) => out.extend_from_slice(&(*number as i32).to_be_bytes())?,
-        Value::Word(text) => {
-            out.extend_from_slice(&(text.items().len() as u16).to_be_bytes())?;
-            out.extend_from_slice(text.items())?;
-        }
-        Value::Truth(truth) => out.push(*truth as u8)?,
-    }
     Ok(())
 }
 
@@ -77,7 +58,7 @@ fn put_node(out: &mut Vec<u8>, entries: &[KeyEntry], node: Node, level: u32) -> 
     requires node { IsNode entries.now node }
     ensures { OnOk result (out.new.items ≡ out.old.items ++ item_bytes level (node_item entries.now node)) }
 {
-    put_key(out, &entries[node.place as usize].key)?;
+    put_value(out, &entries[node.place as usize].key)?;
     if level == 0 {
         put_leaf_tail(out, node)
     } else {

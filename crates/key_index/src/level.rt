@@ -1,28 +1,12 @@
 //! The levels of an index, one from the other.
 ghost use Rattle.std.specs.Prelude.{◌≡◌, ◌+◌, ◌*◌, ◌^◌, ◌<◌, ◌≤◌, All, IfOk, length};
-ghost use Rattle.rows.specs.RowBytes.{value_bytes};
-ghost use Rattle.rows.specs.RowFields.{IsStorable};
 ghost use Rattle.key_index.specs.Bytes.{weight};
 ghost use Rattle.key_index.specs.Nodes.{AreKeys, IsLevel, IsNode, leaf_nodes, level_blocks, node_item, nodes_over, starts_of};
 
 use crate::node::{Level, Node};
-use rows::{KeyEntry, Value};
+use rows::{KeyEntry, value_size};
 use std::alloc::Global;
 use xp_outside::{NoMemory, PAGE};
-
-// How many bytes a key takes.
-fn key_size(key: &Value) -> u32
-    requires { IsStorable key.now }
-    ensures value { result ≡ length (value_bytes key.now) }
-    ensures small { result ≤ 2002 }
-{
-    match key {
-        Value::Null => 0,
-        Value::Number(_) => 4,
-        Value::Word(text) => 2 + text.items().len() as u32,
-        Value::Truth(_) => 1,
-    }
-}
 
 // How many bytes an item takes on a page of this level.
 fn node_size(entries: &[KeyEntry], node: Node, level: u32) -> u32
@@ -31,7 +15,7 @@ fn node_size(entries: &[KeyEntry], node: Node, level: u32) -> u32
     ensures value { result ≡ weight level (node_item entries.now node) }
     ensures small { result ≤ 2010 }
 {
-    let key = key_size(&entries[node.place as usize].key);
+    let key = value_size(&entries[node.place as usize].key);
     if level == 0 { key + 6 } else { key + 8 }
 }
 

@@ -4,7 +4,6 @@
 mod aim;
 mod descent;
 mod entry_order;
-mod field;
 mod fixed;
 mod index_page;
 mod key;
@@ -17,7 +16,6 @@ mod plan;
 mod reading;
 mod scan;
 mod search;
-mod storing;
 #[cfg(test)]
 mod tests;
 mod writing;

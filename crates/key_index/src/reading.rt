@@ -6,10 +6,10 @@ ghost use Rattle.key_index.specs.Aims.{passes, seen_item, seen_item_front};
 ghost use Rattle.key_index.specs.Readings.{item_front, tail_front};
 
 use crate::aim::Aim;
-use crate::field::{read_long, read_short};
-use crate::key::{compare_key, read_key};
+use crate::key::compare_key;
 use crate::page_entry::Entry;
-use rows::{ColType, ValueView};
+use heap_page::{read_long, read_short};
+use rows::{ColType, ValueView, typed_front};
 
 // Whether an entry is counted.
 pub(crate) fn is_counted(aim: Aim<'_>, entry: &Entry<'_>) -> bool
@@ -90,7 +90,7 @@ pub(crate) fn read_entry(
 ) -> Option<(Entry<'_>, &[u8])>
     ensures { option_map seen_item_front result ≡ item_front key_type level number bytes.now }
 {
-    match read_key(bytes, key_type) {
+    match typed_front(key_type, bytes) {
         Some((key, rest)) => read_tail(key, level, number, rest),
         None => None,
     }

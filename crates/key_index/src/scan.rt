@@ -1,14 +1,22 @@
 //! The search in one page.
-ghost use Rattle.std.specs.Prelude.{◌≡◌, ◌<◌, ◌^◌, length, MatchResult, Some};
+ghost use Rattle.std.specs.Prelude.{◌≡◌, ◌<◌, ◌^◌, drop, length, MatchResult, Some};
 ghost use Rattle.key_index.specs.Aims.{Scans};
 ghost use Rattle.key_index.specs.Readings.{page_fault};
 
 use crate::aim::Aim;
-use crate::field::{are_zeros, behind_head, read_short};
 use crate::fixed::scan_fixed;
 use crate::page_entry::Step;
 use crate::reading::{is_counted, read_entry};
+use heap_page::{are_zeros, read_short};
 use rows::ColType;
+
+// The bytes behind the head.
+fn behind_head(bytes: &[u8]) -> &[u8]
+    requires { length bytes.now ≡ 8192 }
+    ensures { result.now ≡ drop 20 bytes.now }
+{
+    bytes.split_at(20).1
+}
 
 // Counts the entries of a page by looking at each of them.
 fn scan_each<'a>(

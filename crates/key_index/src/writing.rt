@@ -12,8 +12,7 @@ ghost use Rattle.key_index.specs.Written.{AllStand, FirstStand};
 use crate::index_page::page_with;
 use crate::level::{first_level, level_above};
 use crate::node::{Level, Node};
-use crate::storing::{check_room, store};
-use heap_page::{FileMap, Page, StoreErr};
+use heap_page::{FileMap, Page, StoreErr, check_room, store_page};
 use rows::{KeyEntry, KeyEntryList, KeyIndex};
 use std::alloc::Global;
 use xp_outside::{Drive, NoMemory};
@@ -91,7 +90,7 @@ fn write_page<D: Drive>(
     ensures err { IfErr result (StoreCause D.Drive map.now drives.old drives.new) }
 {
     let page = level_page(alloc, entries, level, file, place)?;
-    store(drives, map, file, level.base + place as u32, &page)
+    store_page(drives, map, file, level.base + place as u32, &page)
 }
 
 // Writes the pages of a level.

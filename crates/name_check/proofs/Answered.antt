@@ -115,11 +115,16 @@ All-mapped : {A B : Type 0} (P : B → Type 0) (f : A → B) (xs : List A) → A
 All-mapped P f [] h = All-nil (λ x. P (f x))
 All-mapped P f (x ∷ xs) h = All-cons (λ x. P (f x)) x xs (All-head P (f x) (map f xs) h) (All-mapped P f xs (All-tail P (f x) (map f xs) h))
 
+-- where no statement keeps its answer, all queries may be asked of the catalogue
+pub asked : (catalog : List Relation) (ss : List Sentence) (qs : List Query) → queries_of (map heading_of catalog) ss ≡ Ok (map question_of qs) → MayAskEach (map heading_of catalog) ss → list_any is_kept ss ≡ false →
+    All (λ q. MayAsk (map heading_of catalog) (question_of q)) qs
+asked catalog ss qs e m none =
+    All-mapped (MayAsk (map heading_of catalog)) question_of qs
+    (subst (λ xs. All (MayAsk (map heading_of catalog)) xs) (ok_same (questions_in (map heading_of catalog) ss) (map question_of qs) (script_fault (map heading_of catalog) ss) e) (each_asked (map heading_of catalog) ss none m))
+
 pub answerable : (catalog : List Relation) (ss : List Sentence) (qs : List Query) → queries_of (map heading_of catalog) ss ≡ Ok (map question_of qs) → MayAskEach (map heading_of catalog) ss → Answerable catalog ss qs
 answerable catalog ss qs e m db h none =
-    let asked : All (MayAsk (map heading_of catalog)) (map question_of qs) =
-    subst (λ xs. All (MayAsk (map heading_of catalog)) xs) (ok_same (questions_in (map heading_of catalog) ss) (map question_of qs) (script_fault (map heading_of catalog) ss) e) (each_asked (map heading_of catalog) ss none m) in
-    All-mapped (IsResolved db) question_of qs (All-weaker (MayAsk (map heading_of catalog)) (IsResolved db) (λ q k. resolved catalog db q h k) (map question_of qs) asked)
+    All-weaker (λ q. MayAsk (map heading_of catalog) (question_of q)) (λ q. IsResolved db (question_of q)) (λ q k. resolved catalog db (question_of q) h k) qs (asked catalog ss qs e m none)
 
 pub if_answerable : (catalog : List Relation) (ss : List Sentence) (r : Result (List Query) TextErr) → Gives (λ qs. map question_of qs) (queries_of (map heading_of catalog) ss) r →
     OnOk r (MayAskEach (map heading_of catalog) ss) → IfOk r (λ qs. Answerable catalog ss qs)

@@ -4,7 +4,6 @@ ghost use Rattle.std.specs.Prelude.{◌≡◌, ◌++◌, [], ◌∷◌, map, All
 ghost use Rattle.postquel.specs.Program.{program_of};
 ghost use Rattle.postquel_tokens.specs.Forms.{sentence_of};
 ghost use Rattle.rel_meaning.specs.Expression.{question_of};
-ghost use Rattle.rel_meaning.specs.Meaning.{layout_column};
 ghost use Rattle.name_check.specs.Checked.{Gives};
 ghost use Rattle.name_check.specs.Sentences as sentences;
 ghost use Rattle.name_check.specs.Resolved.{Answerable, MayAskEach};
@@ -15,25 +14,12 @@ use crate::statement::query;
 use lists::{Duplicate, Sequence};
 use postquel::Script;
 use postquel_tokens::{IntoForm, TextErr};
-use rel_meaning::Query;
-use rows::{Catalog, ColType, Column, LayoutColumn, Relation};
+use rel_meaning::{Query, column_layout};
+use rows::{Catalog, Column, Relation};
 use std::alloc::{AllocError, Global};
 
 /// The queries of a script, one for each statement.
 pub type QueryList = Sequence<Query>;
-
-// The type and the bound of a column of the catalogue.
-fn column_layout(column: &Column) -> LayoutColumn
-    ensures { result ≡ layout_column column.now }
-{
-    LayoutColumn {
-        col_type: column.col_type,
-        bound: match column.col_type {
-            ColType::Int4 => 1 << 31,
-            ColType::Text | ColType::Bool => 0,
-        },
-    }
-}
 
 fn head_columns(alloc: Global, columns: &[Column]) -> Result<Vec<HeadColumn>, AllocError>
     ensures { IfOk result (λ v. v.items ≡ map sentences.head_column columns.now) }

@@ -2,6 +2,7 @@
 use Rattle.std.proofs.Common.{◌≡◌, ℕ, false, Some, None, List, [], ◌∷◌, length, map, refl, ap, ◌∙◌}
 use Rattle.std.specs.Prelude.{◌==◌, slice_get, option_map}
 use Rattle.std.proofs.lemmas.Option.{slice_get-map}
+use Rattle.heap_page.proofs.Found.{one_at}
 use Rattle.rows.specs.declared.plain.Bound.{Bound}
 use Rattle.rows.specs.declared.plain.Interval.{Interval}
 use Rattle.rows.specs.declared.plain.Relation.{Relation}
@@ -15,7 +16,6 @@ use Rattle.table_store.specs.declared.files.StoredTable.{StoredTable}
 use Rattle.table_store.specs.Databases.{IsLaid}
 use Rattle.table_store.specs.Files.{file_number, heap_file, table_blocks}
 use Rattle.table_store.proofs.Filed.{file_there}
-use Rattle.table_store.proofs.Pages.{one_at}
 use Rattle.query_planner.specs.Counted.{bounds_on, height_in, interval_in, stats_in}
 
 -- where there are bounds, some entries are left

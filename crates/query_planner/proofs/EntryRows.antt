@@ -1,5 +1,5 @@
 -- The rows to which the entries of an index lead.
-use Rattle.std.proofs.Common.{◌≡◌, ℕ, suc, zero, ◌+◌, ◌≤◌, Bool, true, false, not, cond, leb, List, [], ◌∷◌, ◌++◌, length, map, Option, Some, refl, sym, ap, ◌∙◌, arith, sum_by, slice_get, slice_index_or, option_and_then, option_to_list, le-leb, length-append, take_at, drop_at, flat_map}
+use Rattle.std.proofs.Common.{◌≡◌, ℕ, suc, zero, ◌+◌, ◌≤◌, Bool, true, false, not, cond, List, [], ◌∷◌, ◌++◌, length, map, Option, Some, refl, sym, ap, ◌∙◌, arith, sum_by, slice_get, slice_index_or, option_and_then, option_to_list}
 use Rattle.std.specs.Prelude.{unwrap_or}
 use Rattle.std.specs.List.{AllByRecursion, filter, range_with_len}
 use Rattle.std.specs.Ordering.{is_gt, ordering_then}
@@ -13,11 +13,10 @@ use Rattle.lists.specs.Arranged.{Ascends}
 use Rattle.rows.specs.declared.plain.Column.{Column}
 use Rattle.rows.specs.declared.plain.KeyEntry.{KeyEntry}
 use Rattle.rows.specs.declared.value.Value.{Value}
-use Rattle.rows.specs.RowBytes.{IsRowOf, bit_bytes, low_bytes, null_bits, row_bytes, value_bytes}
+use Rattle.rows.specs.RowBytes.{IsRowOf, row_bytes}
 use Rattle.rows.specs.RowFields.{row_in}
 use Rattle.rows.specs.Values.{column_of, row_cmp, value_cmp}
-use Rattle.rows.proofs.RowBits.{bits_again, length-low_bytes}
-use Rattle.rows.proofs.RowValues.{values_again}
+use Rattle.rows.proofs.RowWhole.{row_again}
 use Rattle.heap_page.specs.Blocks.{joined}
 use Rattle.key_index.specs.Entries.{entry_cmp}
 use Rattle.rel_meaning.specs.Eval.{is_null}
@@ -77,16 +76,6 @@ places_found (b ∷ bs) =
     ∙ sym (map-append Some b (joined bs))
 
 -- ---- rows that are read again
-
--- the bytes of a row are read as this row
-row_again : (columns : List Column) (row : List Value) → length columns ≤ 32 → IsRowOf columns row → row_in columns (row_bytes columns row) ≡ Some row
-row_again columns row h is =
-    let front = low_bytes (bit_bytes columns) (null_bits columns row) in
-    let fields = flat_map value_bytes row in
-    let len : length front ≡ bit_bytes columns = length-low_bytes (bit_bytes columns) (null_bits columns row) in
-    let few : leb (length columns) 32 ≡ true = le-leb (length columns) 32 h in
-    let there : leb (bit_bytes columns) (length (front ++ fields)) ≡ true = le-leb (bit_bytes columns) (length (front ++ fields)) (omega (arith, length-append front fields, len)) in
-    rw (few, there, take_at front fields (bit_bytes columns) len, drop_at front fields (bit_bytes columns) len, bits_again columns row) (values_again columns row is)
 
 -- entries in order have keys in order
 smaller_key : (r s : Ordering) → is_gt (ordering_then r s) ≡ false → is_gt r ≡ false

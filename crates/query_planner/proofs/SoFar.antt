@@ -3,13 +3,14 @@ use Rattle.std.proofs.Common.{◌≡◌, ℕ, ◌<◌, List, [], ◌∷◌, ◌+
 use Rattle.std.specs.Prelude.{slice_get}
 use Rattle.plan_tree.specs.declared.tree.Method.{Method}
 use Rattle.plan_tree.specs.Views.{Planned}
+use Rattle.heap_page.proofs.Found.{one_at, there}
 use Rattle.rel_meaning.specs.declared.query.Var.{Var}
 use Rattle.rel_meaning.specs.Expression.{Question}
 use Rattle.rows.specs.declared.plain.Relation.{Relation}
 use Rattle.seq_optimizer.specs.declared.stats.VarStats.{VarStats}
 use Rattle.table_store.specs.declared.files.StoredTable.{StoredTable}
 use Rattle.table_store.proofs.Filed.{all_at}
-use Rattle.table_store.proofs.Pages.{get_last, one_at, there}
+use Rattle.table_store.proofs.Pages.{get_last}
 use Rattle.query_planner.specs.Counted.{AreStats, stats_in}
 use Rattle.query_planner.specs.Plans.{AreBestPlans, IsPlanOf, MayPlan}
 

@@ -1,8 +1,9 @@
 -- What is known of tables that are laid on drives: their files, and the numbers of their indexes.
-use Rattle.std.proofs.Common.{◌≡◌, ℕ, zero, suc, ◌+◌, ◌<◌, ◌≤◌, Option, Some, None, List, [], ◌∷◌, ◌++◌, length, take, get_or, refl, ap, ◌∙◌, arith}
+use Rattle.std.proofs.Common.{◌≡◌, ℕ, zero, suc, ◌+◌, ◌<◌, ◌≤◌, Option, Some, None, List, [], ◌∷◌, length, get_or, refl, ap, ◌∙◌, arith}
 use Rattle.std.specs.Prelude.{slice_get}
 use Rattle.heap_page.specs.declared.map.PageFile.{PageFile}
 use Rattle.heap_page.specs.Maps.{pages_of_all}
+use Rattle.heap_page.proofs.Found.{get_below, one_at, some_at, there}
 use Rattle.key_index.specs.Files.{index_of}
 use Rattle.key_index.specs.Searches.{HasIndex, IsUsable}
 use Rattle.rows.specs.declared.plain.KeyIndex.{KeyIndex}
@@ -11,9 +12,8 @@ use Rattle.table_store.specs.declared.database.Laid.{Laid}
 use Rattle.table_store.specs.declared.files.StoredIndex.{StoredIndex}
 use Rattle.table_store.specs.declared.files.StoredTable.{StoredTable}
 use Rattle.table_store.specs.Databases.{IsLaid}
-use Rattle.table_store.specs.Files.{file_number, files_of, files_of_table, index_file, index_files, numbers_in, table_blocks}
-use Rattle.table_store.proofs.Filed.{index_pages_there, some_at}
-use Rattle.table_store.proofs.Pages.{get_below, one_at, there}
+use Rattle.table_store.specs.Files.{file_number, index_file, numbers_in, table_blocks}
+use Rattle.table_store.proofs.Filed.{index_pages_there, index_there}
 use Rattle.query_planner.specs.Stored.{AreOf, Stands}
 use Rattle.query_planner.proofs.Usable.{usable}
 
@@ -33,19 +33,6 @@ over_stored file heap_pages (Some stored) index e = record { stored = stored; ha
 pub none_stored : (file heap_pages : ℕ) (o : Option StoredIndex) → None ≡ numbers_in file heap_pages o → o ≡ None
 none_stored file heap_pages None e = refl
 none_stored file heap_pages (Some stored) e = absurd cc
-
-get_next : {X : Type 0} (xs ys zs : List X) → slice_get (xs ++ ys) (suc (length (xs ++ zs))) ≡ slice_get ys (suc (length zs))
-get_next [] ys zs = refl
-get_next (x ∷ xs) ys zs = get_next xs ys zs
-
-index_there : (tables : List StoredTable) (number : ℕ) (table : StoredTable) (index : StoredIndex) → slice_get tables number ≡ Some table → table.index ≡ Some index →
-    slice_get (files_of tables) (suc (file_number tables number)) ≡ Some (index_file index)
-index_there [] number table index e has = absurd cc
-index_there (t ∷ ts) zero table index e has =
-    let h : t ≡ table = cc in
-    let k : t.index ≡ Some index = ap (λ (u : StoredTable). u.index) h ∙ has in
-    ap (λ (o : Option StoredIndex). slice_get (index_files o ++ files_of ts) 0) k
-index_there (t ∷ ts) (suc number) table index e has = get_next (files_of_table t) (files_of ts) (files_of (take number ts)) ∙ index_there ts number table index e has
 
 -- what is known of an index that was laid
 pub record IsLaidIndex (files : List PageFile) (file heap_pages : ℕ) (o : Option StoredIndex) (index : KeyIndex) : Type 0 where

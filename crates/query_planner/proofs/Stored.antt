@@ -2,6 +2,7 @@
 use Rattle.std.proofs.Common.{◌≡◌, ℕ, suc, Option, Some, None, List, [], ◌∷◌, length, map, refl, sym, ap, ap₂, ◌∙◌, arith}
 use Rattle.std.specs.Prelude.{slice_get, is_some, All}
 use Rattle.std.proofs.lemmas.List.{length-map}
+use Rattle.heap_page.proofs.Found.{get_below, there}
 use Rattle.rows.specs.declared.plain.Relation.{Relation}
 use Rattle.rows.specs.RowBytes.{row_bytes}
 use Rattle.rel_meaning.specs.declared.query.Table.{Table}
@@ -10,7 +11,6 @@ use Rattle.table_store.specs.declared.files.StoredIndex.{StoredIndex}
 use Rattle.table_store.specs.declared.files.StoredTable.{StoredTable}
 use Rattle.table_store.specs.Databases.{AreStored, IsIndexed, IsLaid, IsStored, MayStore}
 use Rattle.table_store.specs.Files.{IsStorable, table_blocks}
-use Rattle.table_store.proofs.Pages.{get_below, there}
 use Rattle.query_planner.specs.Stored.{AreOf}
 
 -- a table has as many items as rows

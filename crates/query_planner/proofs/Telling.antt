@@ -6,6 +6,7 @@ use Rattle.xp_outside.specs.declared.drive.Drive.{Ghosts}
 use Rattle.heap_page.specs.declared.map.FileMap.{FileMap}
 use Rattle.heap_page.specs.Maps.{address_of, drive_of}
 use Rattle.buffer_pool.specs.Images.{all_told, image_on, page_at}
+use Rattle.heap_page.proofs.Found.{there}
 use Rattle.key_index.specs.Files.{index_pages}
 use Rattle.rows.specs.declared.plain.Relation.{Relation}
 use Rattle.table_store.specs.declared.database.Laid.{Laid}
@@ -15,7 +16,6 @@ use Rattle.table_store.specs.Files.{IsStorable, IsStorableIndex, file_number, he
 use Rattle.table_store.specs.Images.{HoldImage}
 use Rattle.table_store.specs.Readings.{AllTell}
 use Rattle.table_store.proofs.Filed.{all_at, file_there, number_small}
-use Rattle.table_store.proofs.Pages.{there}
 use Rattle.query_planner.specs.Stored.{AreOf}
 use Rattle.query_planner.specs.Told.{AreTold}
 use Rattle.query_planner.proofs.Standing.{within_all}

@@ -11,8 +11,8 @@ use lists::{Duplicate, Sequence};
 use rows::{ColType, Column, Layout, LayoutColumn, LayoutPart, Row, Rows, Value, arrange_rows};
 use std::alloc::{AllocError, Global};
 
-// The type that a column has in a layout.
-fn column_layout(column: &Column) -> LayoutColumn
+/// The type and the bound that a column has in a layout: the bound of an integer is 2^31.
+pub fn column_layout(column: &Column) -> LayoutColumn
     ensures { result ≡ layout_column column.now }
 {
     LayoutColumn {

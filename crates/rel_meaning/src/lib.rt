@@ -8,7 +8,7 @@ mod expr;
 mod place;
 mod query;
 
-pub use answer::answer_plain;
+pub use answer::{answer_plain, column_layout};
 pub use evaluation::evaluate;
 pub use expr::{ArithOp, CompareOp, Expr};
 pub use query::{Database, Query, Table, Target, TargetList, Var, VarList};

@@ -70,7 +70,7 @@ truth_again : (b : Bool) (rest : List ℕ) → truth_front (value_bytes (Truth b
 truth_again true rest = refl
 truth_again false rest = refl
 
-typed_again : (t : ColType) (v : Value) (rest : List ℕ) → IsOfType t v → typed_front t (value_bytes v ++ rest) ≡ Some (v, rest)
+pub typed_again : (t : ColType) (v : Value) (rest : List ℕ) → IsOfType t v → typed_front t (value_bytes v ++ rest) ≡ Some (v, rest)
 typed_again col.Int4 Null rest h = elim h [ ]
 typed_again col.Int4 (Number n) rest h = integer_again n rest h
 typed_again col.Int4 (Word w) rest h = elim h [ ]
@@ -83,6 +83,22 @@ typed_again col.Bool Null rest h = elim h [ ]
 typed_again col.Bool (Number n) rest h = elim h [ ]
 typed_again col.Bool (Word w) rest h = elim h [ ]
 typed_again col.Bool (Truth b) rest h = truth_again b rest
+
+-- a value takes at most 2,002 bytes
+pub value_small : (t : ColType) (v : Value) → IsOfType t v → length (value_bytes v) ≤ 2002
+value_small col.Int4 Null h = elim h [ ]
+value_small col.Int4 (Number n) h = omega arith
+value_small col.Int4 (Word w) h = elim h [ ]
+value_small col.Int4 (Truth b) h = elim h [ ]
+value_small col.Text Null h = elim h [ ]
+value_small col.Text (Number n) h = elim h [ ]
+value_small col.Text (Word w) h = omega (arith, h.1)
+value_small col.Text (Truth b) h = elim h [ ]
+value_small col.Bool Null h = elim h [ ]
+value_small col.Bool (Number n) h = elim h [ ]
+value_small col.Bool (Word w) h = elim h [ ]
+value_small col.Bool (Truth true) h = omega arith
+value_small col.Bool (Truth false) h = omega arith
 
 -- the first column's bit
 first_bit : (n : Bool) (one bits : ℕ) → one ≤ 1 → (n && eqb (cond n (one + 2 * bits) bits % 2) 1) ≡ (n && eqb one 1)

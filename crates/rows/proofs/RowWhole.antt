@@ -8,19 +8,23 @@ use Rattle.std.proofs.lemmas.List.{drop_more}
 use Rattle.rows.specs.declared.value.Value.{Value}
 use Rattle.rows.specs.declared.plain.Column.{Column}
 use Rattle.rows.specs.Values.{column_of}
-use Rattle.rows.specs.RowBytes.{bit_bytes, low_bytes, null_bits, value_bytes, Encodes, Decodes}
+use Rattle.rows.specs.RowBytes.{IsRowOf, bit_bytes, low_bytes, null_bits, row_bytes, value_bytes, Encodes, Decodes}
 use Rattle.rows.specs.RowFields.{Front, behind, bits_behind, ends, low_number, row_in, row_or_none, value_front, values_in}
 use Rattle.rows.proofs.RowBits.{IsBytes, bits_again, length-low_bytes, low_back}
 use Rattle.rows.proofs.RowValues.{IsBytes-take, IsBytes-drop, cond_true, cond_false, some_same, values_again, values_back}
 
-row_again : (columns : List Column) (row : List Value) (bytes : List ℕ) → Encodes columns row bytes → row_in columns bytes ≡ Some row
-row_again columns row bytes h =
+-- the bytes of a row are read as this row
+pub row_again : (columns : List Column) (row : List Value) → length columns ≤ 32 → IsRowOf columns row → row_in columns (row_bytes columns row) ≡ Some row
+row_again columns row few_columns is =
     let front = low_bytes (bit_bytes columns) (null_bits columns row) in
     let fields = flat_map value_bytes row in
     let len : length front ≡ bit_bytes columns = length-low_bytes (bit_bytes columns) (null_bits columns row) in
-    let few : leb (length columns) 32 ≡ true = le-leb (length columns) 32 h.few in
+    let few : leb (length columns) 32 ≡ true = le-leb (length columns) 32 few_columns in
     let there : leb (bit_bytes columns) (length (front ++ fields)) ≡ true = le-leb (bit_bytes columns) (length (front ++ fields)) (omega (arith, length-append front fields, len)) in
-    rw (h.are_bytes, few, there, take_at front fields (bit_bytes columns) len, drop_at front fields (bit_bytes columns) len, bits_again columns row) (values_again columns row h.is_row)
+    rw (few, there, take_at front fields (bit_bytes columns) len, drop_at front fields (bit_bytes columns) len, bits_again columns row) (values_again columns row is)
+
+bytes_again : (columns : List Column) (row : List Value) (bytes : List ℕ) → Encodes columns row bytes → row_in columns bytes ≡ Some row
+bytes_again columns row bytes h = rw h.are_bytes (row_again columns row h.few h.is_row)
 
 row_back : (columns : List Column) (row : List Value) (bytes : List ℕ) → IsBytes bytes → row_in columns bytes ≡ Some row → Encodes columns row bytes
 row_back columns row bytes small e =
@@ -42,8 +46,8 @@ row_back columns row bytes small e =
 pub decodes : (columns : List Column) (bytes : List ℕ) → IsBytes bytes → Decodes columns bytes (row_in columns bytes)
 decodes columns bytes small = by (row_in columns bytes) refl where
   by : (found : Option (List Value)) → row_in columns bytes ≡ found → Decodes columns bytes found
-  by None e = record { sound = tt; complete = (λ row h. absurd (none-some row (sym e ∙ row_again columns row bytes h))) }
-  by (Some row) e = record { sound = row_back columns row bytes small e; complete = (λ other h. sym e ∙ row_again columns other bytes h) }
+  by None e = record { sound = tt; complete = (λ row h. absurd (none-some row (sym e ∙ bytes_again columns row bytes h))) }
+  by (Some row) e = record { sound = row_back columns row bytes small e; complete = (λ other h. sym e ∙ bytes_again columns other bytes h) }
 
 -- ---- walking over the columns
 

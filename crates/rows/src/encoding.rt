@@ -46,8 +46,9 @@ fn null_bits(row: &[Value], columns: &[Column]) -> u32
     bits
 }
 
-// How many bytes a value takes.
-fn value_size(value: &Value) -> u32
+/// How many bytes a value takes, at most 2,002: an integer four, a text two for its length and its own, a truth value one, null
+/// none. The value fits a column.
+pub fn value_size(value: &Value) -> u32
     requires { IsStorable value.now }
     ensures value { result ≡ length (value_bytes value.now) }
     ensures small { result ≤ 2002 }
@@ -94,7 +95,9 @@ fn put_bits(out: &mut Vec<u8>, count: usize, bits: u32) -> Result<(), AllocError
     Ok(())
 }
 
-fn put_value(out: &mut Vec<u8>, value: &Value) -> Result<(), AllocError>
+/// Puts the bytes of a value behind those of `out`: an integer takes four bytes, the highest first, a text two bytes for its
+/// length and its own, a truth value one, null none. The value fits a column.
+pub fn put_value(out: &mut Vec<u8>, value: &Value) -> Result<(), AllocError>
     requires { IsStorable value.now }
     ensures { OnOk result (out.new.items ≡ out.old.items ++ value_bytes value.now) }
 {

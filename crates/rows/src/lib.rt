@@ -11,8 +11,8 @@ mod tests;
 mod text;
 mod value;
 
-pub use encoding::{encode_row, put_row, row_size};
-pub use field::{ColType, FieldErr, field_text, read_field};
+pub use encoding::{encode_row, put_row, put_value, row_size, value_size};
+pub use field::{ColType, FieldErr, field_text, is_text, read_field};
 pub use lists::Sequence;
 pub use order::{SortKey, SortKeyList, arrange_rows, compare, row_order};
 pub use plain::{
@@ -20,7 +20,7 @@ pub use plain::{
     KeyEntry, KeyEntryList, KeyIndex, KeyIndexList, KeyPair, KeyPairList, Layout, LayoutColumn,
     LayoutColumnList, LayoutPart, Machine, Relation, Step, StepList,
 };
-pub use row_view::{RowView, ValueView, decode_row};
+pub use row_view::{RowView, ValueView, decode_row, typed_front};
 pub use text::Text;
 pub use value::Value;
 

@@ -1,5 +1,6 @@
 use crate::{ColType, Text, Value};
-use lists::Sequence;
+use lists::{Duplicate, Sequence};
+use std::alloc::{AllocError, Global};
 
 /// A column of a relation. Only a nullable column may hold null.
 #[derive(Debug, Drop)]
@@ -7,6 +8,16 @@ pub struct Column {
     pub name: Text,
     pub col_type: ColType,
     pub nullable: bool,
+}
+
+impl Duplicate for Column {
+    fn duplicate(&self, alloc: Global) -> Result<Column, AllocError> {
+        Ok(Column {
+            name: self.name.duplicate(alloc)?,
+            col_type: self.col_type,
+            nullable: self.nullable,
+        })
+    }
 }
 
 pub type ColumnList = Sequence<Column>;

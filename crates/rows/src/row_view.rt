@@ -2,7 +2,7 @@
 ghost use Rattle.std.specs.Prelude.{◌≡◌, ◌<◌, ◌≤◌, IfOk, length, is_some, Some};
 ghost use Rattle.std.specs.Option.{option_map};
 ghost use Rattle.rows.specs.RowBytes.{Decodes};
-ghost use Rattle.rows.specs.RowFields.{behind, bits_behind, ends, integer_front, low_number, text_front, truth_front, value_front, values_in};
+ghost use Rattle.rows.specs.RowFields.{behind, bits_behind, ends, integer_front, low_number, text_front, truth_front, typed_front, value_front, values_in};
 ghost use Rattle.rows.specs.RowSeen.{seen, seen_front, seen_rest};
 ghost use Rattle.rows.specs.Values.{column_of};
 
@@ -76,6 +76,18 @@ fn truth_front(bytes: &[u8]) -> Option<(ValueView<'_>, &[u8])>
     }
 }
 
+/// The value of a type at the front of the bytes, and the bytes behind it. It is `None` where the bytes begin with no value of
+/// the type, as `put_value` writes it. A text has at most 2,000 bytes.
+pub fn typed_front(col_type: ColType, bytes: &[u8]) -> Option<(ValueView<'_>, &[u8])>
+    ensures { option_map seen_front result ≡ typed_front col_type bytes.now }
+{
+    match col_type {
+        ColType::Int4 => integer_front(bytes),
+        ColType::Text => text_front(bytes),
+        ColType::Bool => truth_front(bytes),
+    }
+}
+
 // The value of a column at the front of the bytes, and the bytes behind it.
 fn value_front<'a>(column: &Column, bits: u32, bytes: &'a [u8]) -> Option<(ValueView<'a>, &'a [u8])>
     ensures { option_map seen_front result ≡ value_front column.now bits bytes.now }
@@ -83,11 +95,7 @@ fn value_front<'a>(column: &Column, bits: u32, bytes: &'a [u8]) -> Option<(Value
     if column.nullable && bits % 2 == 1 {
         return Some((ValueView::Null, bytes));
     }
-    match column.col_type {
-        ColType::Int4 => integer_front(bytes),
-        ColType::Text => text_front(bytes),
-        ColType::Bool => truth_front(bytes),
-    }
+    typed_front(column.col_type, bytes)
 }
 
 fn bits_behind(column: &Column, bits: u32) -> u32

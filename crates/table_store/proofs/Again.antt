@@ -14,6 +14,7 @@ use Rattle.heap_page.specs.Blocks.{ArePages, joined}
 use Rattle.heap_page.specs.Maps.{address_of, drive_of, HasPages, IsMap}
 use Rattle.heap_page.specs.Pages.{fault_of, items_of, page_of}
 use Rattle.heap_page.specs.Stores.{AreRead, AreWritten, KeepsBut, TellsAt}
+use Rattle.heap_page.proofs.Found.{get_below, one_at, there}
 use Rattle.rows.specs.declared.plain.Column.{Column}
 use Rattle.rows.specs.declared.value.Value.{Value}
 use Rattle.rows.specs.RowBytes.{IsRowOf, row_bytes}
@@ -21,10 +22,9 @@ use Rattle.table_store.specs.declared.files.StoredTable.{StoredTable}
 use Rattle.table_store.specs.Files.{IsStorable, file_number, files_of, table_blocks}
 use Rattle.table_store.specs.Images.{HoldTables}
 use Rattle.table_store.specs.Readings.{AllTell, AreDecoded, AreFileRows, Breaks, HasStranger, TableCause, TellRows, TellsBreak}
-use Rattle.table_store.proofs.Addresses.{file_pages}
+use Rattle.heap_page.proofs.Striping.{file_pages}
 use Rattle.table_store.proofs.Cut.{are_pages}
 use Rattle.table_store.proofs.Filed.{all_at, pages_there}
-use Rattle.table_store.proofs.Pages.{get_below, one_at, there}
 
 -- ---- rows and their items
 

@@ -11,6 +11,7 @@ use Rattle.heap_page.specs.declared.errors.FetchErr.{FetchErr}
 use Rattle.heap_page.specs.declared.errors.FetchErr.TheVariants as fetch
 use Rattle.heap_page.specs.Maps.{HasPage}
 use Rattle.heap_page.specs.Stores.{AreRead, HaveRoom}
+use Rattle.heap_page.proofs.Found.{get_below, there}
 use Rattle.rows.specs.declared.plain.Column.{Column}
 use Rattle.rows.specs.declared.plain.Relation.{Relation}
 use Rattle.rows.specs.declared.value.Value.{Value}
@@ -21,7 +22,7 @@ use Rattle.table_store.specs.Databases.{ReadCause, TellTables}
 use Rattle.table_store.specs.Readings.{TableCause, TellRows}
 use Rattle.table_store.proofs.Again.{tell_kept}
 use Rattle.table_store.proofs.Encoded.{take_one}
-use Rattle.table_store.proofs.Pages.{fault_earlier, get_below, read_none, read_trans, there}
+use Rattle.table_store.proofs.Pages.{fault_earlier, read_none, read_trans}
 
 abbrev pub columns_of_tables : List Table → List (List Column)
 columns_of_tables db = map (λ (t : Table). t.columns) db

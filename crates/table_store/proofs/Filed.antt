@@ -1,5 +1,5 @@
 -- Where the heap file of a table stands in the files of tables.
-use Rattle.std.proofs.Common.{◌≡◌, ℕ, zero, suc, ◌+◌, ◌*◌, ◌<◌, ◌≤◌, Option, Some, None, List, [], ◌∷◌, ◌++◌, length, take, get_or, refl, sym, ap, ◌∙◌, arith, inl, inr}
+use Rattle.std.proofs.Common.{◌≡◌, ℕ, zero, suc, ◌+◌, ◌*◌, ◌<◌, ◌≤◌, Option, Some, None, List, [], ◌∷◌, ◌++◌, length, take, refl, sym, ap, ◌∙◌, arith, inl, inr}
 use Rattle.std.specs.Prelude.{slice_get, ◌⊎◌}
 use Rattle.std.specs.List.{All}
 use Rattle.std.proofs.lemmas.Bool.{cases_lt}
@@ -13,11 +13,6 @@ use Rattle.table_store.specs.declared.files.StoredTable.{StoredTable}
 use Rattle.table_store.specs.Files.{IsStorable, heap_file, index_file, index_files, files_of_table, files_of, file_number}
 use Rattle.table_store.proofs.Cut.{only_pages}
 use Rattle.table_store.proofs.IndexPages.{same_count}
-
-pub some_at : {X : Type 0} (xs : List X) (i : ℕ) (x : X) → i < length xs → x ≡ get_or xs i x → slice_get xs i ≡ Some x
-some_at [] i x lt e = absurd (omega arith)
-some_at (y ∷ xs) zero x lt e = ap Some (sym e)
-some_at (y ∷ xs) (suc i) x lt e = some_at xs i x (omega arith) e
 
 pub all_at : {X : Type 0} (P : X → Type 0) (xs : List X) (i : ℕ) (x : X) → All P xs → slice_get xs i ≡ Some x → P x
 all_at P [] i x h e = absurd cc
@@ -43,7 +38,7 @@ get_next : {X : Type 0} (xs ys zs : List X) → slice_get (xs ++ ys) (suc (lengt
 get_next [] ys zs = refl
 get_next (x ∷ xs) ys zs = get_next xs ys zs
 
-index_there : (tables : List StoredTable) (number : ℕ) (table : StoredTable) (index : StoredIndex) → slice_get tables number ≡ Some table → table.index ≡ Some index →
+pub index_there : (tables : List StoredTable) (number : ℕ) (table : StoredTable) (index : StoredIndex) → slice_get tables number ≡ Some table → table.index ≡ Some index →
     slice_get (files_of tables) (suc (file_number tables number)) ≡ Some (index_file index)
 index_there [] number table index e has = absurd cc
 index_there (t ∷ ts) zero table index e has =

@@ -1,13 +1,11 @@
 -- How many pages an index has: at most two for each entry, whatever the number of its file.
-use Rattle.std.proofs.Common.{◌≡◌, ℕ, zero, suc, ◌+◌, ◌*◌, ◌<◌, ◌≤◌, true, false, List, [], ◌∷◌, ◌++◌, length, take, refl, sym, ap, subst, arith, length-append}
+use Rattle.std.proofs.Common.{◌≡◌, ℕ, zero, suc, ◌+◌, ◌*◌, ◌<◌, ◌≤◌, List, [], ◌∷◌, ◌++◌, length, take, refl, sym, ap, subst, arith, length-append}
 use Rattle.std.specs.List.{AllByRecursion}
 use Rattle.heap_page.specs.Blocks.{AreBlocks, AreFull, joined, weight_of}
+use Rattle.rows.proofs.RowValues.{value_small}
 use Rattle.rows.specs.declared.field.ColType.{ColType}
-use Rattle.rows.specs.declared.field.ColType.TheVariants as col
 use Rattle.rows.specs.declared.plain.KeyEntry.{KeyEntry}
-use Rattle.rows.specs.declared.value.Value.{Value}
-use Rattle.rows.specs.declared.value.Value.TheVariants.{Null, Number, Word, Truth}
-use Rattle.rows.specs.RowBytes.{IsOfType, value_bytes}
+use Rattle.rows.specs.RowBytes.{value_bytes}
 use Rattle.key_index.specs.Bytes.{tail_bytes, weight}
 use Rattle.key_index.specs.Entries.{AreEntries, IsEntry, Item, items_from, items_of}
 use Rattle.key_index.specs.Files.{index_pages, level_pages, pages_of_levels}
@@ -19,24 +17,9 @@ use Rattle.key_index.specs.Levels.{AreLevels, firsts, levels_of}
 abbrev IsSmall : Item → Type 0
 IsSmall e = length (value_bytes e.key) ≤ 2002
 
-key_small : (t : ColType) (v : Value) → IsOfType t v → length (value_bytes v) ≤ 2002
-key_small col.Int4 Null h = elim h [ ]
-key_small col.Int4 (Number n) h = omega arith
-key_small col.Int4 (Word w) h = elim h [ ]
-key_small col.Int4 (Truth b) h = elim h [ ]
-key_small col.Text Null h = elim h [ ]
-key_small col.Text (Number n) h = elim h [ ]
-key_small col.Text (Word w) h = omega (arith, h.1)
-key_small col.Text (Truth b) h = elim h [ ]
-key_small col.Bool Null h = elim h [ ]
-key_small col.Bool (Number n) h = elim h [ ]
-key_small col.Bool (Word w) h = elim h [ ]
-key_small col.Bool (Truth true) h = omega arith
-key_small col.Bool (Truth false) h = omega arith
-
 all_small : (t : ColType) (heap number : ℕ) (es : List KeyEntry) → AllByRecursion (IsEntry t heap) es → AllByRecursion IsSmall (items_from number es)
 all_small t heap number [] h = tt
-all_small t heap number (e ∷ es) h = (key_small t e.key h.0.0, all_small t heap (suc number) es h.1)
+all_small t heap number (e ∷ es) h = (value_small t e.key h.0.0, all_small t heap (suc number) es h.1)
 
 tail_length : (level : ℕ) (e : Item) → length (tail_bytes level e) ≤ 8
 tail_length zero e = omega arith

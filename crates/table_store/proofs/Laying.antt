@@ -13,6 +13,8 @@ use Rattle.heap_page.specs.Blocks.{ArePages, FitsAlone, blocks_of, item_weight}
 use Rattle.heap_page.specs.Maps.{address_of, drive_of, HasPage, IsMap}
 use Rattle.heap_page.specs.Pages.{page_of}
 use Rattle.heap_page.specs.Stores.{AreRead, AreWritten, HaveRoom, IsFull, KeepsBut, StoreCause, TellsAt}
+use Rattle.heap_page.proofs.Drives.{room_kept}
+use Rattle.heap_page.proofs.Found.{get_below, one_at, there}
 use Rattle.rows.specs.declared.plain.Column.{Column}
 use Rattle.rows.specs.declared.plain.KeyIndex.{KeyIndex}
 use Rattle.rows.specs.declared.plain.Relation.{Relation}
@@ -27,10 +29,9 @@ use Rattle.table_store.specs.Entries.{type_at}
 use Rattle.table_store.specs.Files.{IsStorable, IsStorableIndex, encodings, file_number, files_of, index_numbers}
 use Rattle.table_store.specs.Images.{HoldImage, HoldTables, IsTablePlace}
 use Rattle.table_store.specs.Readings.{AllTell, TellRows}
-use Rattle.table_store.proofs.Addresses.{address_below}
+use Rattle.heap_page.proofs.Striping.{address_below}
 use Rattle.table_store.proofs.Filed.{all_at, index_pages_there, pages_there}
-use Rattle.table_store.proofs.Pages.{get_below, get_last, one_at, there}
-use Rattle.table_store.proofs.Stored.{room_after}
+use Rattle.table_store.proofs.Pages.{get_last}
 
 pub storable : (relation : Relation) (table : Table) (items : List (List ℕ)) → IsTableOf relation table → items ≡ encodings table.columns table.rows → (length items ≤ 1000000) × All FitsAlone items
 storable relation table items h e =
@@ -217,7 +218,7 @@ module _ {D : Type 0} (g : Ghosts D) (map_of : FileMap) (tables : List StoredTab
 
 module _ {D : Type 0} (g : Ghosts D) where
   pub lay_cause : (tables : List StoredTable) (map_of : FileMap) (P : ℕ → ℕ → Type 0) (olds news : List D) (e : StoreErr) → IsMapOf tables (length olds) map_of → AreWritten g P olds news → StoreCause g map_of olds news e → LayCause g tables olds news e
-  lay_cause tables map_of P olds news (DriveFault d) of wrote h = (map_of, of, room_after g map_of P olds news wrote h.0, h.1)
+  lay_cause tables map_of P olds news (DriveFault d) of wrote h = (map_of, of, room_kept g map_of P olds news wrote h.0, h.1)
   lay_cause tables map_of P olds news (DriveFull d needs capacity) of wrote h = (map_of, of, subst (IsFull g map_of d needs capacity) (sym h.1) h.0)
   lay_cause tables map_of P olds news NoMemory of wrote h = tt
 

@@ -1,4 +1,3 @@
-mod Addresses
 mod IndexPages
 mod Again
 mod Cut

@@ -1,9 +1,8 @@
 -- The pages of a file, read one after the other.
-use Rattle.std.proofs.Common.{◌≡◌, ℕ, zero, suc, ◌+◌, ◌<◌, ◌≤◌, List, [], ◌∷◌, ◌++◌, length, map, Option, Some, None, refl, sym, ap, subst, ◌∙◌, append_assoc, arith, inl, inr}
+use Rattle.std.proofs.Common.{◌≡◌, ℕ, zero, suc, ◌+◌, List, [], ◌∷◌, ◌++◌, length, map, Option, Some, None, refl, sym, ap, subst, ◌∙◌, append_assoc, arith, inl, inr}
 use Rattle.std.specs.Prelude.{slice_get, ◌⊎◌, IfErr, MatchResult, Result, Ok, Err}
 use Rattle.std.proofs.lemmas.List.{length-append, append-nil}
 use Rattle.xp_outside.specs.Drives.{ReadsPage}
-use Rattle.xp_outside.specs.Outside.{Rose}
 use Rattle.xp_outside.specs.declared.drive.Drive.{Ghosts}
 use Rattle.heap_page.specs.declared.errors.BadPage.{BadPage}
 use Rattle.heap_page.specs.declared.errors.FetchErr.{FetchErr}
@@ -13,24 +12,13 @@ use Rattle.heap_page.specs.Blocks.{joined}
 use Rattle.heap_page.specs.Maps.{address_of, drive_of, HasPage, HasPages}
 use Rattle.heap_page.specs.Pages.{items_of}
 use Rattle.heap_page.specs.Stores.{AreRead, IsFault, HaveRoom}
+use Rattle.heap_page.proofs.Drives.{rose_earlier}
+use Rattle.heap_page.proofs.Found.{get_below, one_at, there}
 use Rattle.rows.specs.declared.plain.Column.{Column}
 use Rattle.rows.specs.declared.value.Value.{Value}
 use Rattle.table_store.specs.Readings.{ArePageRows, AreFileRows, Breaks, TableCause, TellsBreak}
 use Rattle.table_store.specs.Steps.{IsBad, IsStep}
 use Rattle.table_store.proofs.Encoded.{encoded_append}
-
-pub get_below : {X : Type 0} (xs : List X) (i : ℕ) (x : X) → slice_get xs i ≡ Some x → i < length xs
-get_below [] i x e = absurd cc
-get_below (y ∷ xs) zero x e = omega arith
-get_below (y ∷ xs) (suc i) x e = omega (arith, get_below xs i x e)
-
-pub there : {X : Type 0} (xs : List X) (d : ℕ) → d < length xs → (x : X) × (slice_get xs d ≡ Some x)
-there [] d lt = absurd (omega arith)
-there (x ∷ xs) zero lt = (x, refl)
-there (x ∷ xs) (suc d) lt = there xs d (omega arith)
-
-pub one_at : {X : Type 0} (xs : List X) (i : ℕ) (x y : X) → slice_get xs i ≡ Some x → slice_get xs i ≡ Some y → x ≡ y
-one_at xs i x y e f = let h : Some x ≡ Some y = sym e ∙ f in cc
 
 pub get_last : {X : Type 0} (xs : List X) (x : X) (i : ℕ) (y : X) → slice_get (xs ++ x ∷ []) i ≡ Some y → (slice_get xs i ≡ Some y) ⊎ ((i ≡ length xs) × (x ≡ y))
 get_last [] x zero y e = inr (refl, cc)
@@ -65,9 +53,6 @@ module _ {D : Type 0} (g : Ghosts D) where
   room_read map_of us bs h room = λ d b at_b.
       let a = there us d (omega (arith, get_below bs d b at_b, h.len)) in
       omega (arith, (h.each d a.0 b a.1 at_b).size, room d a.0 a.1)
-
-  rose_earlier : (a b c : ℕ) → a ≤ b → Rose b c → Rose a c
-  rose_earlier a b c le h = omega (arith, le, h)
 
   pub fault_earlier : (us bs cs : List D) (d : ℕ) → AreRead g us bs → IsFault g d bs cs → IsFault g d us cs
   fault_earlier us bs cs d h f =

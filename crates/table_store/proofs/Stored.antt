@@ -1,9 +1,8 @@
 -- Tables that are written one after the other.
-use Rattle.std.proofs.Common.{◌≡◌, ℕ, ◌+◌, ◌<◌, ◌≤◌, List, [], ◌∷◌, length, Option, Some, None, Result, Ok, Err, IfErr, OnOk, refl, sym, ap, subst, ◌∙◌, arith, inl, inr}
+use Rattle.std.proofs.Common.{◌≡◌, ℕ, ◌+◌, ◌<◌, ◌≤◌, List, [], ◌∷◌, length, Some, None, Result, Ok, Err, IfErr, OnOk, refl, sym, ap, subst, ◌∙◌, arith, inl, inr}
 use Rattle.std.specs.Prelude.{slice_get, ◌⊎◌}
 use Rattle.std.specs.List.{All}
 use Rattle.std.proofs.lemmas.Bool.{cases_lt}
-use Rattle.xp_outside.specs.Outside.{Rose}
 use Rattle.xp_outside.specs.declared.drive.Drive.{Ghosts}
 use Rattle.heap_page.specs.declared.errors.StoreErr.{StoreErr}
 use Rattle.heap_page.specs.declared.errors.StoreErr.TheVariants.{DriveFault, DriveFull, NoMemory}
@@ -11,7 +10,9 @@ use Rattle.heap_page.specs.declared.map.FileMap.{FileMap}
 use Rattle.heap_page.specs.Blocks.{ArePages}
 use Rattle.heap_page.specs.Maps.{address_of, drive_of, shares, HasPage, HasPages, IsMap, IsPlace}
 use Rattle.heap_page.specs.Pages.{page_of}
-use Rattle.heap_page.specs.Stores.{AreWritten, IsWritten, IsFault, IsFull, HaveRoom, KeepsBut, Stand, StoreCause, TellsAt}
+use Rattle.heap_page.specs.Stores.{AreWritten, IsFull, HaveRoom, Stand, StoreCause, TellsAt}
+use Rattle.heap_page.proofs.Drives.{cause_later, fault_before, not_full, room_before, room_kept, tells_kept, wrote_none, wrote_trans}
+use Rattle.heap_page.proofs.Found.{get_below, one_at, there}
 use Rattle.key_index.specs.Files.{index_pages}
 use Rattle.key_index.specs.Written.{AllStand}
 use Rattle.table_store.specs.declared.files.StoredIndex.{StoredIndex}
@@ -19,74 +20,12 @@ use Rattle.table_store.specs.declared.files.StoredTable.{StoredTable}
 use Rattle.table_store.specs.Files.{IsStorable, file_number, files_of, files_of_table}
 use Rattle.table_store.specs.Images.{HoldTable, HoldTables, IsPlaceOf, IsTablePlace}
 use Rattle.table_store.proofs.Filed.{file_below, index_pages_there, next_number, pages_there, some_files, two_files, up_to}
-use Rattle.table_store.proofs.Pages.{get_below, one_at, there}
 
 pub on_ok : {X E : Type 0} (r : Result X E) (A B : Type 0) → (A → B) → OnOk r A → OnOk r B
 on_ok (Ok x) A B f h = f h
 on_ok (Err e) A B f h = tt
 
 module _ {D : Type 0} (g : Ghosts D) where
-  keeps_trans : (P Q R : ℕ → Type 0) (a b c : Option (List (List ℕ))) → ((x : ℕ) → P x → R x) → ((x : ℕ) → Q x → R x) → KeepsBut P a b → KeepsBut Q b c → KeepsBut R a c
-  keeps_trans P Q R None None None p q h k = tt
-  keeps_trans P Q R None None (Some f) p q h k = k
-  keeps_trans P Q R None (Some f) c p q h k = elim h [ ]
-  keeps_trans P Q R (Some f) None c p q h k = elim h [ ]
-  keeps_trans P Q R (Some f) (Some f2) None p q h k = k
-  keeps_trans P Q R (Some f) (Some f2) (Some f3) p q h k = (k.0 ∙ h.0, λ x out. k.1 x (λ w. out (q x w)) ∙ h.1 x (λ w. out (p x w)))
-
-  keeps_none : (a : Option (List (List ℕ))) (P : ℕ → Type 0) → KeepsBut P a a
-  keeps_none None P = tt
-  keeps_none (Some f) P = (refl, λ x out. refl)
-
-  wrote_none : (P : ℕ → ℕ → Type 0) (us : List D) → AreWritten g P us us
-  wrote_none P us = record {
-    len = refl;
-    each = λ d a b at_a at_b.
-        let e : a ≡ b = one_at us d a b at_a at_b in
-        subst (λ (x : D). IsWritten g (P d) a x) e (record { size = refl; count = omega arith; others = keeps_none (g.pages a) (P d) });
-  }
-
-  wrote_trans : (P Q R : ℕ → ℕ → Type 0) (us bs cs : List D) → ((d x : ℕ) → P d x → R d x) → ((d x : ℕ) → Q d x → R d x) → AreWritten g P us bs → AreWritten g Q bs cs → AreWritten g R us cs
-  wrote_trans P Q R us bs cs p q h k = record {
-    len = k.len ∙ h.len;
-    each = λ d a c at_a at_c.
-        let b = there bs d (omega (arith, get_below us d a at_a, h.len)) in
-        let one = h.each d a b.0 at_a b.1 in
-        let two = k.each d b.0 c b.1 at_c in
-        record {
-          size = two.size ∙ one.size;
-          count = omega (arith, one.count, two.count);
-          others = keeps_trans (P d) (Q d) (R d) (g.pages a) (g.pages b.0) (g.pages c) (p d) (q d) one.others two.others;
-        };
-  }
-
-  room_before : (map_of : FileMap) (P : ℕ → ℕ → Type 0) (us bs : List D) → AreWritten g P us bs → HaveRoom g map_of bs → HaveRoom g map_of us
-  room_before map_of P us bs h room = λ d a at_a.
-      let b = there bs d (omega (arith, get_below us d a at_a, h.len)) in
-      omega (arith, (h.each d a b.0 at_a b.1).size, room d b.0 b.1)
-
-  pub room_after : (map_of : FileMap) (P : ℕ → ℕ → Type 0) (us bs : List D) → AreWritten g P us bs → HaveRoom g map_of us → HaveRoom g map_of bs
-  room_after map_of P us bs h room = λ d b at_b.
-      let a = there us d (omega (arith, get_below bs d b at_b, h.len)) in
-      omega (arith, (h.each d a.0 b a.1 at_b).size, room d a.0 a.1)
-
-  rose_earlier : (a b c : ℕ) → a ≤ b → Rose b c → Rose a c
-  rose_earlier a b c le h = omega (arith, le, h)
-
-  fault_before : (P : ℕ → ℕ → Type 0) (us bs cs : List D) (d : ℕ) → AreWritten g P us bs → IsFault g d bs cs → IsFault g d us cs
-  fault_before P us bs cs d h f =
-      let a = there us d (omega (arith, get_below bs d f.old f.was, h.len)) in
-      record { old = a.0; new = f.new; was = a.1; is = f.is; rose = rose_earlier _ _ _ (h.each d a.0 f.old a.1 f.was).count f.rose }
-
-  tells_kept : (P : ℕ → Type 0) (old new : Option (List (List ℕ))) (a : ℕ) (bytes : List ℕ) → KeepsBut P old new → (P a → ⊥) → TellsAt old a bytes → TellsAt new a bytes
-  tells_kept P None None a bytes k out h = tt
-  tells_kept P None (Some f) a bytes k out h = elim k [ ]
-  tells_kept P (Some f) None a bytes k out h = tt
-  tells_kept P (Some f) (Some f2) a bytes k out h = λ page at. h page (sym (k.1 a out) ∙ at)
-
-  full_not : (map_of : FileMap) (d needs capacity : ℕ) (bs : List D) → HaveRoom g map_of bs → IsFull g map_of d needs capacity bs → ⊥
-  full_not map_of d needs capacity bs room f = absurd (omega (arith, room d f.drive f.here, f.needs_is, f.capacity_is, f.small))
-
   abbrev Apart : Type 0
   Apart = (map_of : FileMap) (file page other number : ℕ) → IsMap map_of → HasPage map_of.files.items file page → HasPage map_of.files.items other number → drive_of map_of page ≡ drive_of map_of number → address_of map_of file page ≡ address_of map_of other number → file ≡ other
 
@@ -108,11 +47,11 @@ module _ {D : Type 0} (g : Ghosts D) where
     heap_place d x k = let e : file ≡ file + 0 = omega arith in (0, some_files table, subst (λ (f : ℕ). IsPlace map_of f d x) e k)
 
     pub heap_written : (us bs : List D) → AreWritten g (IsPlace map_of file) us bs → AreWritten g (IsPlaceOf map_of file table) us bs
-    heap_written us bs w = wrote_trans (IsPlaceOf map_of file table) (IsPlace map_of file) (IsPlaceOf map_of file table) us us bs (λ d x k. k) heap_place (wrote_none (IsPlaceOf map_of file table) us) w
+    heap_written us bs w = wrote_trans g (IsPlaceOf map_of file table) (IsPlace map_of file) (IsPlaceOf map_of file table) us us bs (λ d x k. k) heap_place (wrote_none g (IsPlaceOf map_of file table) us) w
 
     pub both_written : (us bs cs : List D) (index : StoredIndex) → table.index ≡ Some index → AreWritten g (IsPlace map_of file) us bs → AreWritten g (IsPlace map_of (file + 1)) bs cs → AreWritten g (IsPlaceOf map_of file table) us cs
     both_written us bs cs index has w v =
-        wrote_trans (IsPlace map_of file) (IsPlace map_of (file + 1)) (IsPlaceOf map_of file table) us bs cs heap_place (λ d x k. (1, omega (arith, two_files table index has), k)) w v
+        wrote_trans g (IsPlace map_of file) (IsPlace map_of (file + 1)) (IsPlaceOf map_of file table) us bs cs heap_place (λ d x k. (1, omega (arith, two_files table index has), k)) w v
 
     pub hold_heap : (bs : List D) → table.index ≡ None → ((blocks : List (List (List ℕ))) → ArePages table.items blocks → Stand g map_of file blocks bs) → HoldTable g map_of file table bs
     hold_heap bs none stand = record { heap = stand; index = λ index has. absurd (let k : None ≡ Some index = sym none ∙ has in cc) }
@@ -130,14 +69,9 @@ module _ {D : Type 0} (g : Ghosts D) where
           subst (λ (i : StoredIndex). AllStand g map_of (file + 1) (index_pages (file + 1) i.entries) cs) same now;
     }
 
-  cause_after : (map_of : FileMap) (P : ℕ → ℕ → Type 0) (us bs cs : List D) (e : StoreErr) → AreWritten g P us bs → HaveRoom g map_of us → StoreCause g map_of bs cs e → StoreCause g map_of us cs e
-  cause_after map_of P us bs cs (DriveFault d) w room cause = (room, fault_before P us bs cs d w cause.1)
-  cause_after map_of P us bs cs (DriveFull d needs capacity) w room cause = absurd (full_not map_of d needs capacity bs (room_after map_of P us bs w room) cause.0)
-  cause_after map_of P us bs cs NoMemory w room cause = room
-
   pub result_cause : {X : Type 0} (map_of : FileMap) (P : ℕ → ℕ → Type 0) (us bs cs : List D) (r : Result X StoreErr) → AreWritten g P us bs → HaveRoom g map_of us → IfErr r (StoreCause g map_of bs cs) → IfErr r (StoreCause g map_of us cs)
   result_cause map_of P us bs cs (Ok x) w room h = tt
-  result_cause map_of P us bs cs (Err e) w room h = cause_after map_of P us bs cs e w room h
+  result_cause map_of P us bs cs (Err e) w room h = cause_later g map_of P us bs cs e w h room
 
   -- no table is written yet, or each drive has room
   abbrev Begun : FileMap → List D → ℕ → List D → Type 0
@@ -150,21 +84,21 @@ module _ {D : Type 0} (g : Ghosts D) where
     pub begun : ((done ≡ 0) × (news ≡ olds)) ⊎ HaveRoom g map_of olds
 
   pub starts : (map_of : FileMap) (tables : List StoredTable) (olds : List D) → Storing map_of tables olds 0 0 olds
-  starts map_of tables olds = record { file_is = refl; wrote = wrote_none (IsTablePlace map_of tables) olds; stand = λ n t lt. absurd (omega arith); begun = inl (refl, refl) }
+  starts map_of tables olds = record { file_is = refl; wrote = wrote_none g (IsTablePlace map_of tables) olds; stand = λ n t lt. absurd (omega arith); begun = inl (refl, refl) }
 
   module _ (map_of : FileMap) (tables : List StoredTable) (files : map_of.files.items ≡ files_of tables) (each : All IsStorable tables) (m : IsMap map_of)
       (apart : (map_of : FileMap) (file page other number : ℕ) → IsMap map_of → HasPage map_of.files.items file page → HasPage map_of.files.items other number → drive_of map_of page ≡ drive_of map_of number → address_of map_of file page ≡ address_of map_of other number → file ≡ other) where
     pub cause_before : (olds bs cs : List D) (done file : ℕ) (e : StoreErr) → Storing map_of tables olds done file bs → StoreCause g map_of bs cs e → StoreCause g map_of olds cs e
-    cause_before olds bs cs done file (DriveFault d) s cause = (room_before map_of (IsTablePlace map_of tables) olds bs s.wrote cause.0, fault_before (IsTablePlace map_of tables) olds bs cs d s.wrote cause.1)
+    cause_before olds bs cs done file (DriveFault d) s cause = (room_before g map_of (IsTablePlace map_of tables) olds bs s.wrote cause.0, fault_before g (IsTablePlace map_of tables) olds bs cs d s.wrote cause.1)
     cause_before olds bs cs done file (DriveFull d needs capacity) s cause = elim s.begun [
       | inl b ↦ subst (λ (us : List D). IsFull g map_of d needs capacity us × (cs ≡ us)) b.1 cause
-      | inr room ↦ absurd (full_not map_of d needs capacity bs (room_after map_of (IsTablePlace map_of tables) olds bs s.wrote room) cause.0)
+      | inr room ↦ absurd (not_full g map_of d needs capacity bs (room_kept g map_of (IsTablePlace map_of tables) olds bs s.wrote room) cause.0)
     ]
-    cause_before olds bs cs done file NoMemory s cause = room_before map_of (IsTablePlace map_of tables) olds bs s.wrote cause
+    cause_before olds bs cs done file NoMemory s cause = room_before g map_of (IsTablePlace map_of tables) olds bs s.wrote cause
 
     pub wrote_more : (olds bs cs : List D) (done file : ℕ) (table : StoredTable) → Storing map_of tables olds done file bs → AreWritten g (IsPlaceOf map_of file table) bs cs → AreWritten g (IsTablePlace map_of tables) olds cs
     wrote_more olds bs cs done file table s w =
-        wrote_trans (IsTablePlace map_of tables) (IsPlaceOf map_of file table) (IsTablePlace map_of tables) olds bs cs (λ d x k. k)
+        wrote_trans g (IsTablePlace map_of tables) (IsPlaceOf map_of file table) (IsTablePlace map_of tables) olds bs cs (λ d x k. k)
         (λ d x k. (file + k.0, file_below tables map_of.files.items (file + k.0) k.2.1.0 files k.2.1.1, k.2)) s.wrote w
 
     -- the pages of an earlier table stay
@@ -197,7 +131,7 @@ module _ {D : Type 0} (g : Ghosts D) where
                 let f : file ≡ file_number tables number = s.file_is ∙ ap (file_number tables) (sym e) in
                 subst (λ (k : ℕ). HoldTable g map_of k t cs) f (subst (λ (u : StoredTable). HoldTable g map_of file u cs) (sym same) now))
           ];
-          begun = inr (room_before map_of (IsTablePlace map_of tables) olds bs s.wrote room);
+          begun = inr (room_before g map_of (IsTablePlace map_of tables) olds bs s.wrote room);
         }
 
     no_files : (tables : List StoredTable) → length tables ≤ 0 → files_of tables ≡ []

@@ -14,25 +14,11 @@ ghost use Rattle.table_store.specs.Readings.{TellRows};
 use crate::database::Laid;
 use crate::reading::read_table;
 use heap_page::FetchErr;
-use lists::{Duplicate, Sequence};
+use lists::Sequence;
 use rel_meaning::{Database, Table};
-use rows::{Catalog, Column, Relation, Rows};
-use std::alloc::{AllocError, Global};
+use rows::{Catalog, Relation, Rows};
+use std::alloc::Global;
 use xp_outside::Drive;
-
-fn copied(alloc: Global, columns: &[Column]) -> Result<Vec<Column>, AllocError>
-    ensures { IfOk result (λ copy. copy.items ≡ columns.now) }
-{
-    let mut copy = Vec::with_capacity(alloc, columns.len())?;
-    for column in columns {
-        copy.push(Column {
-            name: column.name.duplicate(alloc)?,
-            col_type: column.col_type,
-            nullable: column.nullable,
-        })?;
-    }
-    Ok(copy)
-}
 
 // The table of a relation, from its heap file.
 fn read_relation<D: Drive>(
@@ -57,7 +43,7 @@ fn read_relation<D: Drive>(
 {
     let rows = read_table(alloc, drives, &laid.map, heap, &relation.columns, spent)?;
     Ok(Table {
-        columns: Sequence::from_vec(copied(alloc, relation.columns.items())?),
+        columns: relation.columns.copy(alloc)?,
         rows,
     })
 }

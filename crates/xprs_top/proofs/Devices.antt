@@ -10,6 +10,7 @@ use Rattle.heap_page.specs.declared.errors.StoreErr.{StoreErr}
 use Rattle.heap_page.specs.declared.errors.StoreErr.TheVariants as store
 use Rattle.heap_page.specs.declared.map.FileMap.{FileMap}
 use Rattle.heap_page.specs.Stores.{AreRead, IsFault}
+use Rattle.heap_page.proofs.Found.{get_below, there}
 use Rattle.rel_meaning.specs.declared.query.Table.{Table}
 use Rattle.table_store.specs.declared.database.Laid.{Laid}
 use Rattle.table_store.specs.declared.files.StoredTable.{StoredTable}
@@ -17,7 +18,7 @@ use Rattle.table_store.specs.Databases.{AllFresh, AreKept, IsLaidOut, LayoutCaus
 use Rattle.table_store.specs.Images.{HoldImage}
 use Rattle.table_store.specs.Readings.{AllTell}
 use Rattle.table_store.proofs.Laying.{kept_reading, kept_trans}
-use Rattle.table_store.proofs.Pages.{get_below, room_read, there}
+use Rattle.table_store.proofs.Pages.{room_read}
 use Rattle.xprs_top.specs.Answers.{answers_bytes}
 use Rattle.xprs_top.specs.Devices.{Fit, HasFailed, IsUntold, Makes}
 use Rattle.xprs_top.specs.declared.goal.Goal.{Goal}

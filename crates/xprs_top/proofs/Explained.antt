@@ -7,6 +7,7 @@ use Rattle.heap_page.specs.declared.errors.BadPage.{BadPage}
 use Rattle.heap_page.specs.declared.errors.FetchErr.{FetchErr}
 use Rattle.heap_page.specs.declared.errors.FetchErr.TheVariants as fetch
 use Rattle.heap_page.specs.Stores.{AreRead}
+use Rattle.heap_page.proofs.Found.{there}
 use Rattle.rows.specs.declared.plain.Relation.{Relation}
 use Rattle.rel_meaning.specs.declared.query.Table.{Table}
 use Rattle.table_store.specs.declared.database.Laid.{Laid}
@@ -15,7 +16,6 @@ use Rattle.table_store.specs.Databases.{AllFresh, AreKept, IsLaidOut, MayStore}
 use Rattle.table_store.specs.Images.{HoldImage}
 use Rattle.table_store.specs.Readings.{AllTell}
 use Rattle.table_store.proofs.Laying.{kept_reading}
-use Rattle.table_store.proofs.Pages.{there}
 use Rattle.plan_tree.specs.declared.tree.Method.{Method}
 use Rattle.plan_tree.specs.declared.tree.Plan.{Plan}
 use Rattle.plan_tree.specs.Views.{planned_of}

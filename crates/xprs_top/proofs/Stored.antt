@@ -3,14 +3,14 @@ use Rattle.std.proofs.Common.{◌≡◌, ◌<◌, ℕ, suc, ◌+◌, List, [], �
 use Rattle.std.specs.Prelude.{slice_get, All}
 use Rattle.std.proofs.lemmas.List.{length-append}
 use Rattle.catalog_load.specs.Limits.{HasLimits}
+use Rattle.heap_page.proofs.Found.{one_at, some_at}
 use Rattle.rows.specs.declared.plain.Column.{Column}
 use Rattle.rows.specs.declared.plain.Relation.{Relation}
 use Rattle.rows.specs.RowBytes.{IsRowOf}
 use Rattle.rel_meaning.specs.declared.query.Table.{Table}
 use Rattle.name_check.specs.Resolved.{AreTables}
 use Rattle.table_store.specs.Databases.{IsTableOf, MayStore}
-use Rattle.table_store.proofs.Pages.{get_last, one_at}
-use Rattle.table_store.proofs.Filed.{some_at}
+use Rattle.table_store.proofs.Pages.{get_last}
 use Rattle.xprs_top.proofs.Tables.{is_table}
 
 -- the tables so far

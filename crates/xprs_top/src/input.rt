@@ -14,10 +14,10 @@ use crate::refusal::{Naming, status_naming, table_refusal};
 use crate::script::{ReadScript, catalog_in, checked_script};
 use crate::words::Operands;
 use catalog_load::load_table;
-use lists::{Duplicate, Sequence};
+use lists::Sequence;
 use rel_meaning::{Database, Table};
-use rows::{Catalog, Column, Relation, Rows};
-use std::alloc::{AllocError, Global};
+use rows::{Catalog, Relation, Rows};
+use std::alloc::Global;
 use xp_outside::{Shelf, ShelfErr};
 
 /// The greatest number of bytes of a file, 64 MiB.
@@ -107,20 +107,6 @@ fn table_input<S: Shelf>(alloc: Global, shelf: &mut S, relation: &Relation) -> R
     }
 }
 
-fn copied(alloc: Global, columns: &[Column]) -> Result<Vec<Column>, AllocError>
-    ensures { IfOk result (λ copy. copy.items ≡ columns.now) }
-{
-    let mut copy = Vec::new(alloc);
-    for column in columns {
-        copy.push(Column {
-            name: column.name.duplicate(alloc)?,
-            col_type: column.col_type,
-            nullable: column.nullable,
-        })?;
-    }
-    Ok(copy)
-}
-
 // The table of a relation.
 fn table<S: Shelf>(alloc: Global, shelf: &mut S, relation: &Relation) -> Result<Table, Status>
     requires few { length relation.now.columns ≤ 32 }
@@ -132,7 +118,7 @@ fn table<S: Shelf>(alloc: Global, shelf: &mut S, relation: &Relation) -> Result<
 {
     let rows = table_input(alloc, shelf, relation)?;
     Ok(Table {
-        columns: Sequence::from_vec(copied(alloc, relation.columns.items())?),
+        columns: relation.columns.copy(alloc)?,
         rows,
     })
 }

@@ -4,7 +4,8 @@ use Rattle.heap_page.specs.Stores.{StoreCause}
 use Rattle.heap_page.specs.Maps.{IsPlace}
 use Rattle.heap_page.proofs.Counted.{fit_here}
 use Rattle.heap_page.specs.Blocks.{item_weight, blocks_of}
-use Rattle.heap_page.proofs.Fillings.{number_below, in_file, number_small, is_page, pushed_in, turned, wrote_some, ended, next_below, at_item, at_end, cause_later, if_err_map}
+use Rattle.heap_page.proofs.Fillings.{number_below, in_file, number_small, is_page, pushed_in, turned, wrote_some, ended, next_below, at_item, at_end}
+use Rattle.heap_page.proofs.Drives.{cause_later, if_err_map}
 use Rattle.heap_page.proofs.filling.write_pages.Goals as goal
 use Rattle.heap_page.proofs.filling.write_pages.Goals.{in-Pushed, in-NoRoom+in_ok-turn_page-in-NoRoom}
 
@@ -49,18 +50,18 @@ loop-place-preserved g c =
           w.turn_page.ensures.written w.in_ok-turn_page-in-NoRoom.ensures.ok w.in_ok-turn_page-in-NoRoom.ensures.page)
     ]
 
-pub store-requires-clause-page : goal.store-requires-clause-page
-store-requires-clause-page g c = in_file g.D.Drive c.args.map.now c.args.file (blocks_of item_weight 8172 c.args.items.now) c.args.drives.now c.ranges.file.fits c.requires.map c.requires.pages c.loop-place.number (number_below g.D.Drive c.args.map.now c.args.file (blocks_of item_weight 8172 c.args.items.now) c.args.drives.now c.ranges.file.fits c.requires.map c.requires.pages c.loop-place.number c.loop-place.page _ c.loop-place.drives c.loop-place.invariant)
+pub store_page-requires-clause-page : goal.store_page-requires-clause-page
+store_page-requires-clause-page g c = in_file g.D.Drive c.args.map.now c.args.file (blocks_of item_weight 8172 c.args.items.now) c.args.drives.now c.ranges.file.fits c.requires.map c.requires.pages c.loop-place.number (number_below g.D.Drive c.args.map.now c.args.file (blocks_of item_weight 8172 c.args.items.now) c.args.drives.now c.ranges.file.fits c.requires.map c.requires.pages c.loop-place.number c.loop-place.page _ c.loop-place.drives c.loop-place.invariant)
 
 pub returns-clause-written : goal.returns-clause-written
-returns-clause-written g c = wrote_some g.D.Drive c.args.map.now c.args.file (blocks_of item_weight 8172 c.args.items.now) c.args.drives.now c.ranges.file.fits c.requires.map c.requires.pages c.loop-place.number c.loop-place.page _ c.loop-place.drives c.store.new.drives c.loop-place.invariant c.store.ensures.written
+returns-clause-written g c = wrote_some g.D.Drive c.args.map.now c.args.file (blocks_of item_weight 8172 c.args.items.now) c.args.drives.now c.ranges.file.fits c.requires.map c.requires.pages c.loop-place.number c.loop-place.page _ c.loop-place.drives c.store_page.new.drives c.loop-place.invariant c.store_page.ensures.written
 
 pub returns-clause-ok : goal.returns-clause-ok
 returns-clause-ok g c =
     let s = at_end g.D.Drive c.args.map.now c.args.file (blocks_of item_weight 8172 c.args.items.now) c.args.drives.now c.ranges.file.fits c.requires.map c.requires.pages c.args.items.now c.loop-place.place c.loop-place.number c.loop-place.page c.loop-place.drives (omega arith) c.loop-place.invariant in
-    on_ok_weaker c.store.result (λ ok. ended g.D.Drive c.args.map.now c.args.file (blocks_of item_weight 8172 c.args.items.now) c.args.drives.now c.ranges.file.fits c.requires.map c.requires.pages c.loop-place.number c.loop-place.page c.loop-place.drives c.store.new.drives s c.store.ensures.written ok) c.store.ensures.ok
+    on_ok_weaker c.store_page.result (λ ok. ended g.D.Drive c.args.map.now c.args.file (blocks_of item_weight 8172 c.args.items.now) c.args.drives.now c.ranges.file.fits c.requires.map c.requires.pages c.loop-place.number c.loop-place.page c.loop-place.drives c.store_page.new.drives s c.store_page.ensures.written ok) c.store_page.ensures.ok
 
 pub returns-clause-err : goal.returns-clause-err
 returns-clause-err g c =
-    if_err_map c.store.result (StoreCause g.D.Drive c.args.map.now c.loop-place.drives c.store.new.drives) (StoreCause g.D.Drive c.args.map.now c.args.drives.now c.store.new.drives)
-    (λ e h. cause_later g.D.Drive c.args.map.now (IsPlace c.args.map.now c.args.file) c.args.drives.now c.loop-place.drives c.store.new.drives e c.loop-place.invariant.wrote h c.requires.room) c.store.ensures.err
+    if_err_map c.store_page.result (StoreCause g.D.Drive c.args.map.now c.loop-place.drives c.store_page.new.drives) (StoreCause g.D.Drive c.args.map.now c.args.drives.now c.store_page.new.drives)
+    (λ e h. cause_later g.D.Drive c.args.map.now (IsPlace c.args.map.now c.args.file) c.args.drives.now c.loop-place.drives c.store_page.new.drives e c.loop-place.invariant.wrote h c.requires.room) c.store_page.ensures.err

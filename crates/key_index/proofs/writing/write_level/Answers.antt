@@ -2,7 +2,8 @@ use Rattle.std.proofs.Common.{◌+◌, length, arith}
 use Rattle.std.proofs.lemmas.Result.{err_from_is_err_and}
 use Rattle.heap_page.specs.Maps.{IsPlace}
 use Rattle.key_index.specs.Files.{index_pages}
-use Rattle.key_index.proofs.Drives.{cause_later, has_page, page_here, starts, writes, wrote_page}
+use Rattle.heap_page.proofs.Drives.{cause_later}
+use Rattle.key_index.proofs.Drives.{has_page, page_here, starts, writes, wrote_page}
 use Rattle.key_index.proofs.Nodes.{base_small, below_pages}
 use Rattle.key_index.proofs.writing.write_level.Goals as goal
 

@@ -2,7 +2,8 @@ use Rattle.std.proofs.Common.{arith}
 use Rattle.std.proofs.lemmas.Result.{err_from_is_err_and, on_ok_weaker}
 use Rattle.heap_page.specs.Maps.{IsPlace}
 use Rattle.heap_page.specs.Stores.{StoreCause}
-use Rattle.key_index.proofs.Drives.{both_wrote, cause_later, if_err_map, last_stage, next_stage}
+use Rattle.heap_page.proofs.Drives.{cause_later, if_err_map}
+use Rattle.key_index.proofs.Drives.{both_wrote, last_stage, next_stage}
 use Rattle.key_index.proofs.writing.write_levels.Goals as goal
 
 pub returns-in_err-write_level-clause-written : goal.returns-in_err-write_level-clause-written

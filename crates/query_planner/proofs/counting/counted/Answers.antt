@@ -2,9 +2,10 @@ use Rattle.std.proofs.Common.{◌≡◌, ◌+◌, ◌<◌, ◌∙◌, arith, len
 use Rattle.std.specs.Prelude.{slice_get}
 use Rattle.std.proofs.lemmas.List.{length-map}
 use Rattle.std.proofs.lemmas.Option.{slice_get-get_or}
+use Rattle.heap_page.proofs.Found.{some_at}
 use Rattle.table_store.specs.declared.files.StoredTable.{StoredTable}
 use Rattle.table_store.specs.Files.{file_number, files_of, table_blocks}
-use Rattle.table_store.proofs.Filed.{all_at, some_at}
+use Rattle.table_store.proofs.Filed.{all_at}
 use Rattle.query_planner.proofs.Counted.{heap_pages, row_count}
 use Rattle.query_planner.proofs.Standing.{told_index}
 use Rattle.query_planner.proofs.counting.counted.Goals as goal

@@ -1,6 +1,7 @@
 use Rattle.std.proofs.Common.{◌≡◌, ◌+◌, ◌∙◌, Option, Some, None, List, refl, ap, sym, subst, length}
 use Rattle.std.specs.Prelude.{MatchResult}
 use Rattle.std.proofs.lemmas.Result.{IfErr-weaker}
+use Rattle.heap_page.proofs.Found.{one_at}
 use Rattle.key_index.specs.Files.{HoldsIndex}
 use Rattle.key_index.specs.Searches.{NotBad, SearchCause}
 use Rattle.rel_meaning.specs.Expression.{question_of}
@@ -10,7 +11,6 @@ use Rattle.rows.specs.declared.plain.KeyIndex.{KeyIndex}
 use Rattle.rows.specs.declared.plain.Relation.{Relation}
 use Rattle.table_store.specs.declared.files.StoredIndex.{StoredIndex}
 use Rattle.table_store.specs.Files.{file_number, table_blocks}
-use Rattle.table_store.proofs.Pages.{one_at}
 use Rattle.query_planner.specs.Causes.{ReadCause}
 use Rattle.query_planner.specs.Counted.{bounds_on, interval_in}
 use Rattle.query_planner.proofs.Causing.{searched}

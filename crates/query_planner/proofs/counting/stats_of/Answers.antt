@@ -1,6 +1,6 @@
 use Rattle.std.proofs.Common.{◌≡◌, ◌<◌, ◌∙◌, length}
 use Rattle.std.proofs.lemmas.Result.{err_from_is_err_and}
-use Rattle.table_store.proofs.Pages.{one_at}
+use Rattle.heap_page.proofs.Found.{one_at}
 use Rattle.table_store.proofs.Filed.{all_at}
 use Rattle.rel_meaning.specs.Expression.{question_of}
 use Rattle.query_planner.proofs.Counted.{same_stats}

@@ -5,9 +5,9 @@ use Rattle.std.proofs.lemmas.Option.{slice_get-map}
 use Rattle.std.proofs.lemmas.Result.{err_from_is_err_and}
 use Rattle.plan_tree.specs.declared.tree.Plan.{Plan}
 use Rattle.plan_tree.specs.Views.{planned_of}
+use Rattle.heap_page.proofs.Found.{some_at}
 use Rattle.rel_meaning.specs.declared.query.Query.{Query}
 use Rattle.rel_meaning.specs.Expression.{question_of}
-use Rattle.table_store.proofs.Filed.{some_at}
 use Rattle.query_planner.proofs.SoFar.{all_planned, one_planned}
 use Rattle.query_planner.proofs.planning.plans_of.Goals as goal
 

@@ -1,7 +1,8 @@
 use Rattle.std.proofs.Common.{◌≡◌, ℕ, ◌+◌, ◌∙◌, ap, arith}
+use Rattle.heap_page.proofs.Found.{some_at}
 use Rattle.table_store.specs.Files.{file_number, numbers_in, table_blocks}
 use Rattle.std.specs.Prelude.{length}
-use Rattle.table_store.proofs.Filed.{number_small, some_at}
+use Rattle.table_store.proofs.Filed.{number_small}
 use Rattle.table_store.proofs.Laying.{one_planned}
 use Rattle.table_store.proofs.database.index_list.Goals as goal
 

@@ -1,4 +1,4 @@
-use Rattle.table_store.proofs.Filed.{some_at}
+use Rattle.heap_page.proofs.Found.{some_at}
 use Rattle.table_store.proofs.Laying.{one_encoded}
 use Rattle.table_store.proofs.database.stored_tables.Goals as goal
 

@@ -2,8 +2,8 @@ use Rattle.std.proofs.Common.{◌∙◌}
 use Rattle.std.proofs.lemmas.List.{take_all}
 use Rattle.std.proofs.lemmas.Result.{err_from_is_err_and}
 use Rattle.heap_page.specs.declared.errors.FetchErr.TheVariants as fetch
+use Rattle.heap_page.proofs.Found.{some_at}
 use Rattle.table_store.proofs.DatabaseRead.{cause_earlier, no_bad, one_back, same_count, same_err}
-use Rattle.table_store.proofs.Filed.{some_at}
 use Rattle.table_store.proofs.Pages.{read_trans}
 use Rattle.table_store.proofs.database_reading.read_database.Goals as goal
 

@@ -1,5 +1,6 @@
 use Rattle.std.proofs.Common.{◌≡◌, ◌+◌, arith}
-use Rattle.table_store.proofs.Filed.{some_at, next_number, number_small, number_within}
+use Rattle.heap_page.proofs.Found.{some_at}
+use Rattle.table_store.proofs.Filed.{next_number, number_small, number_within}
 use Rattle.table_store.proofs.files.heap_file_number.Goals as goal
 
 pub overflow_add-file : goal.overflow_add-file

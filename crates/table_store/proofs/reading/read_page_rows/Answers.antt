@@ -1,6 +1,6 @@
 use Rattle.std.proofs.Common.{arith}
 use Rattle.heap_page.specs.Maps.{drive_of}
-use Rattle.table_store.proofs.Addresses.{address_below}
+use Rattle.heap_page.proofs.Striping.{address_below}
 use Rattle.table_store.proofs.Pages.{bad_cause}
 use Rattle.table_store.proofs.reading.read_page_rows.Goals as goal
 

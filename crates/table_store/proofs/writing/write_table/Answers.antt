@@ -3,7 +3,8 @@ use Rattle.heap_page.specs.Maps.{IsPlace}
 use Rattle.key_index.specs.Files.{index_pages}
 use Rattle.key_index.specs.Written.{AllStand}
 use Rattle.table_store.specs.Images.{HoldTable}
-use Rattle.table_store.proofs.Stored.{both_written, heap_written, hold_both, on_ok, result_cause, room_after}
+use Rattle.heap_page.proofs.Drives.{room_kept}
+use Rattle.table_store.proofs.Stored.{both_written, heap_written, hold_both, on_ok, result_cause}
 use Rattle.table_store.proofs.writing.write_table.Goals as goal
 
 pub returns-in_err-write_relation-clause-written : goal.returns-in_err-write_relation-clause-written
@@ -11,7 +12,7 @@ returns-in_err-write_relation-clause-written g c = heap_written g.D.Drive c.args
 
 pub write_index_file-requires-clause-room : goal.write_index_file-requires-clause-room
 write_index_file-requires-clause-room g c =
-    room_after g.D.Drive c.args.map.now (IsPlace c.args.map.now c.args.file) c.args.drives.now c.write_relation.new.drives c.write_relation.ensures.written c.in_ok-write_relation.ensures.room
+    room_kept g.D.Drive c.args.map.now (IsPlace c.args.map.now c.args.file) c.args.drives.now c.write_relation.new.drives c.write_relation.ensures.written c.in_ok-write_relation.ensures.room
 
 pub returns-in-Some-clause-written : goal.returns-in-Some-clause-written
 returns-in-Some-clause-written g c =

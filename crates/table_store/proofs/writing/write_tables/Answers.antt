@@ -1,10 +1,12 @@
 use Rattle.std.proofs.Common.{◌+◌, arith}
 use Rattle.std.proofs.lemmas.Result.{err_from_is_err_and}
+use Rattle.heap_page.proofs.Drives.{room_kept}
+use Rattle.heap_page.proofs.Found.{some_at}
 use Rattle.table_store.specs.Files.{IsStorable}
 use Rattle.table_store.specs.Images.{IsTablePlace}
 use Rattle.table_store.proofs.Again.{tell_rows}
-use Rattle.table_store.proofs.Filed.{all_at, index_pages_there, some_at, pages_there, next_number, number_small}
-use Rattle.table_store.proofs.Stored.{cause_before, wrote_more, stored, hold_at_end, room_after, room_at_end}
+use Rattle.table_store.proofs.Filed.{all_at, index_pages_there, pages_there, next_number, number_small}
+use Rattle.table_store.proofs.Stored.{cause_before, wrote_more, stored, hold_at_end, room_at_end}
 use Rattle.table_store.proofs.writing.write_tables.Goals as goal
 
 pub write_table-requires-clause-table : goal.write_table-requires-clause-table
@@ -60,5 +62,5 @@ returns-clause-rows g c = λ number table columns rows at same few are_rows tell
 
 pub returns-clause-room_left : goal.returns-clause-room_left
 returns-clause-room_left g c =
-    room_after g.D.Drive c.args.map.now (IsTablePlace c.args.map.now c.args.tables.now) c.args.drives.now c.loop-table.drives c.loop-table.invariant.wrote
+    room_kept g.D.Drive c.args.map.now (IsTablePlace c.args.map.now c.args.tables.now) c.args.drives.now c.loop-table.drives c.loop-table.invariant.wrote
     (room_at_end g.D.Drive c.args.map.now c.args.tables.now c.requires.files c.requires.tables c.requires.map c.place_laws.ensures.file c.args.drives.now c.loop-table.drives c.loop-table.table-index c.loop-table.file c.loop-table-test.false c.loop-table.invariant)

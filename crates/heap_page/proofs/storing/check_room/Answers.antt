@@ -1,7 +1,7 @@
 use Rattle.std.proofs.Common.{◌≤◌, arith, refl}
 use Rattle.heap_page.specs.Maps.{needs_of}
-use Rattle.key_index.proofs.Found.{some_at, get_below, below_is}
-use Rattle.key_index.proofs.storing.check_room.Goals as goal
+use Rattle.heap_page.proofs.Found.{some_at, get_below, below_is}
+use Rattle.heap_page.proofs.storing.check_room.Goals as goal
 
 pub returns-then-needs-capacity-clause-err : goal.returns-then-needs-capacity-clause-err
 returns-then-needs-capacity-clause-err g c = (

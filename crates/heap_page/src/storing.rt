@@ -3,11 +3,12 @@ ghost use Rattle.std.specs.Prelude.{◌≡◌, Some, OnOk, IfErr, length, slice_
 ghost use Rattle.heap_page.specs.Maps.{IsMap, HasPage, drive_of, address_of};
 ghost use Rattle.heap_page.specs.Stores.{AreWritten, HaveRoom, StoreCause, TellsAt};
 
-use heap_page::{FileMap, Page, StoreErr};
+use crate::{FileMap, Page, StoreErr};
 use xp_outside::Drive;
 
-// Whether each drive has the pages that the map needs.
-pub(crate) fn check_room<D: Drive>(drives: &[D], map: &FileMap) -> Result<(), StoreErr>
+/// Whether each drive has the pages that the map needs. `DriveFull` comes exactly where one has fewer, with the first such
+/// drive, its need and its number of pages.
+pub fn check_room<D: Drive>(drives: &[D], map: &FileMap) -> Result<(), StoreErr>
     requires map { IsMap map.now }
     requires drives { length drives.now ≡ map.now.drives }
     ensures ok { OnOk result (HaveRoom D.Drive map.now drives.now) }
@@ -28,8 +29,10 @@ pub(crate) fn check_room<D: Drive>(drives: &[D], map: &FileMap) -> Result<(), St
     Ok(())
 }
 
-// Writes one page.
-pub(crate) fn store<D: Drive>(
+/// Writes one page of a file to its place. Each drive has the pages that the map needs. `DriveFault` comes only where that
+/// drive's count rises. Whatever the answer, each drive keeps its number of pages, tells exactly where it told, and tells
+/// the same at every other address.
+pub fn store_page<D: Drive>(
     drives: &mut [D],
     map: &FileMap,
     file: u32,
