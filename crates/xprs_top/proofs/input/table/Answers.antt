@@ -1,4 +1,3 @@
-
 use Rattle.xprs_top.proofs.input.table.Goals as goal
 
 pub returns-clause-table : goal.returns-clause-table
