@@ -3,17 +3,20 @@
 
 Build the program first (examples/run does). A catalogue whose second table isn't there ends the run once the first one is
 loaded, before a drive is mounted. The same catalogue without it goes on, and answers a statement that reads no row. The
-difference is the time of the drives.
+difference is the time of the drives. The two runs are made in pairs, one right behind the other, since the speed of a machine
+that others share changes; what is printed is the middle one of the pairs.
 """
 
 import os
 import shutil
+import statistics
 import subprocess
 import sys
 import tempfile
 import time
 
 ROWS = 1_000_000
+PAIRS = 15
 TOP = os.path.dirname(os.path.dirname(os.path.dirname(os.path.abspath(__file__))))
 PROGRAM = os.path.join(TOP, "crates", "xprs_cli", "out", "xprs_cli")
 RELATION = 'relation EMP from "emp.csv" (name = text, dept = text, sal = int4)\n'
@@ -37,33 +40,37 @@ def write_files(folder):
 
 
 def timed(catalogue, wanted, folder):
-    """Wall time and processor time in seconds of the best of five runs, and the peak memory in bytes."""
-    best = None
-    for _ in range(5):
-        begin = time.monotonic()
-        child = subprocess.Popen([PROGRAM, "alone", catalogue, "q"], cwd=folder, stdout=subprocess.DEVNULL, stderr=subprocess.DEVNULL)
-        _, status, usage = os.wait4(child.pid, 0)
-        wall = time.monotonic() - begin
-        if os.waitstatus_to_exitcode(status) != wanted:
-            sys.exit(f"{catalogue}: status {status}")
-        spent = usage.ru_utime + usage.ru_stime
-        if best is None or spent < best[1]:
-            best = (wall, spent, usage.ru_maxrss * 1024)
-    return best
+    """Wall time and processor time in seconds of one run, and its peak memory in bytes."""
+    begin = time.monotonic()
+    child = subprocess.Popen([PROGRAM, "alone", catalogue, "q"], cwd=folder, stdout=subprocess.DEVNULL, stderr=subprocess.DEVNULL)
+    _, status, usage = os.wait4(child.pid, 0)
+    wall = time.monotonic() - begin
+    if os.waitstatus_to_exitcode(status) != wanted:
+        sys.exit(f"{catalogue}: status {status}")
+    return wall, usage.ru_utime + usage.ru_stime, usage.ru_maxrss * 1024
+
+
+def print_halves(pairs, place):
+    """The middle of each half's times in seconds, and in how many pairs the second half took less."""
+    name = ("wall", "processor")[place]
+    first = [loaded[place] for loaded, _ in pairs]
+    second = [whole[place] - loaded[place] for loaded, whole in pairs]
+    less = sum(there < here for here, there in zip(first, second))
+    print(f"{name:10} {statistics.median(first):.2f} s   {statistics.median(second):.2f} s   {less} of {len(pairs)}", flush=True)
 
 
 def main():
     folder = tempfile.mkdtemp(prefix="xprs-bench-")
     try:
         write_files(folder)
-        loaded = timed("loaded", 2, folder)
-        whole = timed("whole", 0, folder)
+        pairs = [(timed("loaded", 2, folder), timed("whole", 0, folder)) for _ in range(PAIRS)]
     finally:
         shutil.rmtree(folder)
-    print(f"{ROWS} rows          wall   processor")
-    print(f"loaded from CSV       {loaded[0]:.2f} s  {loaded[1]:.2f} s")
-    print(f"laid and read back    {whole[0] - loaded[0]:.2f} s  {whole[1] - loaded[1]:.2f} s")
-    print(f"peak memory           {whole[2] / 1e6:.0f} MB")
+    print(f"{ROWS} rows, {PAIRS} pairs of runs")
+    print("           loaded   laid and read back, less in")
+    print_halves(pairs, 0)
+    print_halves(pairs, 1)
+    print(f"peak memory {max(whole[2] for _, whole in pairs) / 1e6:.0f} MB")
 
 
 if __name__ == "__main__":
