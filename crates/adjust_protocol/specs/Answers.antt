@@ -54,7 +54,8 @@ SettleFront s s' role count (Cut k) = Unit {0}
 SettleFront s s' role count Finished = left_of s'.scan.marks role ≡ drop count (out_of s.scan.marks role) ++ left_of s.scan.marks role
 
 abbrev pub AskAnswer : Running → Running → ℕ → Asked → Type 0
-AskAnswer s s' degree asked.Pending = (is_full s.scan.marks ≡ false) × (s'.asked ≡ Some degree) × (IsDue s' → ⊥)
-AskAnswer s s' degree (asked.Cut k) = is_full s.scan.marks ≡ false
+AskAnswer s s' degree asked.Pending =
+    (is_full s.scan.marks ≡ false) × (wanted s ≡ degree → ⊥) × (s'.asked ≡ Some degree) × (IsDue s' → ⊥)
+AskAnswer s s' degree (asked.Cut k) = (is_full s.scan.marks ≡ false) × (wanted s ≡ degree → ⊥)
 AskAnswer s s' degree asked.NoChange = (is_full s.scan.marks ≡ false) × (wanted s ≡ degree)
 AskAnswer s s' degree asked.AlreadyFinished = is_full s.scan.marks ≡ true

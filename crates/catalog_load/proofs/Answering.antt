@@ -14,6 +14,7 @@ use Rattle.catalog_load.specs.declared.form.ColumnForm.{ColumnForm}
 use Rattle.catalog_load.specs.declared.form.RelationForm.{RelationForm}
 use Rattle.catalog_load.specs.declared.machine.Place.{Place}
 use Rattle.catalog_load.specs.declared.machine.Place.TheVariants as place
+use Rattle.postquel_tokens.specs.Names.{key_of}
 use Rattle.catalog_load.specs.Catalogs.{IsForm, fault_of, relation_of, is_key}
 use Rattle.catalog_load.specs.Machine.{State, Told, finish, going_on, or_end, run, step}
 use Rattle.catalog_load.specs.Readings.{Begins, IsLexed, IsReading, IsUnexpected, NoneWith, Tells, Writes, WritesOr, spot_of}
@@ -46,7 +47,7 @@ module _ (es : List RelationForm) (used : List Token) where
   from_columns e h = whole used (es ++ e ∷ []) (ended es (place.BehindColumns e) used (es ++ e ∷ []) h refl)
 
 from_index : (es : List RelationForm) (used : List Token) (e : RelationForm) → Holds es (place.Index e) used → Begins used
-unfolding is_key
+unfolding is_key key_of
 from_index es used e h = longer used (token_of (kind.Name [])) (from_end _ _ (stepped es used (token_of (kind.Name [])) (place.Index e) _ h refl))
 
 from_null : (es : List RelationForm) (used : List Token) (e : RelationForm) (c : ColumnForm) → Holds es (place.BehindNull e c) used → Begins used
@@ -62,7 +63,7 @@ from_equal : (es : List RelationForm) (used : List Token) (e : RelationForm) (n 
 from_equal es used e n h = longer used (token_of (kind.Mark sign.Equal)) (from_type _ _ _ _ (stepped es used (token_of (kind.Mark sign.Equal)) (place.Equal e n) _ h refl))
 
 from_column : (es : List RelationForm) (used : List Token) (e : RelationForm) → Holds es (place.Column e) used → Begins used
-unfolding is_key
+unfolding is_key key_of
 from_column es used e h = longer used (token_of (kind.Name [])) (from_equal _ _ _ _ (stepped es used (token_of (kind.Name [])) (place.Column e) _ h refl))
 
 from_open : (es : List RelationForm) (used : List Token) (e : RelationForm) → Holds es (place.Open e) used → Begins used
@@ -75,7 +76,7 @@ from_from : (es : List RelationForm) (used : List Token) (n : Ident) → Holds e
 from_from es used n h = longer used (token_of (kind.Name (codes "from"))) (from_file _ _ _ (stepped es used (token_of (kind.Name (codes "from"))) (place.From n) _ h refl))
 
 from_name : (es : List RelationForm) (used : List Token) → Holds es place.Name used → Begins used
-unfolding is_key
+unfolding is_key key_of
 from_name es used h = longer used (token_of (kind.Name [])) (from_from _ _ _ (stepped es used (token_of (kind.Name [])) place.Name _ h refl))
 
 -- from each place some catalogue can be reached

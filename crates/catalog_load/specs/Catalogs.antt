@@ -1,5 +1,5 @@
 -- The text of a catalogue.
-use Rattle.std.specs.Prelude.{◌≡◌, ℕ, ◌<◌, Bool, true, false, not, nat_le, List, [], ◌∷◌, ◌++◌, length, map, if◌then◌else◌, Option, Some, None, codes, All}
+use Rattle.std.specs.Prelude.{◌≡◌, ℕ, ◌<◌, Bool, true, false, not, nat_le, List, [], ◌∷◌, ◌++◌, length, map, if◌then◌else◌, Option, Some, None, is_some, codes, All}
 use Rattle.std.specs.List.{flat_map, list_any, position}
 use Rattle.std.specs.Str.{bytes_eq}
 use Rattle.postquel_tokens.specs.declared.fault.Spot.{Spot}
@@ -7,6 +7,7 @@ use Rattle.postquel_tokens.specs.declared.fault.What.{What}
 use Rattle.postquel_tokens.specs.declared.fault.What.TheVariants as what
 use Rattle.postquel_tokens.specs.declared.form.Ident.{Ident}
 use Rattle.postquel_tokens.specs.declared.token.Token.{Token}
+use Rattle.postquel_tokens.specs.Names.{key_of}
 use Rattle.postquel_tokens.specs.declared.token.TokenKind.TheVariants as kind
 use Rattle.postquel_tokens.specs.declared.token.Sign.{Sign}
 use Rattle.postquel_tokens.specs.declared.token.Sign.TheVariants as sign
@@ -14,18 +15,13 @@ use Rattle.rows.specs.declared.field.ColType.{ColType}
 use Rattle.rows.specs.declared.field.ColType.TheVariants as col
 use Rattle.rows.specs.declared.plain.Column.{Column}
 use Rattle.rows.specs.declared.plain.Relation.{Relation}
-use Rattle.catalog_load.specs.declared.words.TheConstants.{KEYS}
 use Rattle.catalog_load.specs.declared.form.ColumnForm.{ColumnForm}
 use Rattle.catalog_load.specs.declared.form.RelationForm.{RelationForm}
 use Rattle.catalog_load.specs.declared.form.Flaw.{Flaw}
 
-abbrev pub is_among : List (List ℕ) → List ℕ → Bool
-is_among [] name = false
-is_among (first ∷ rest) name = if bytes_eq first name then true else is_among rest name
-
 -- a name that no relation and no column may have
 unfoldable pub is_key : List ℕ → Bool
-is_key name = is_among (map (λ k. k.now) KEYS) name
+is_key name = is_some (key_of name)
 
 -- a part of an entry: a word, a name that is no key, a text, or a mark
 pub data Piece : Type 0 where

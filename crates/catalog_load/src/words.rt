@@ -1,11 +1,11 @@
 //! What one token of a catalogue may be.
 
-ghost use Rattle.std.specs.Prelude.{◌≡◌, map};
+ghost use Rattle.std.specs.Prelude.{◌≡◌};
 ghost use Rattle.catalog_load.specs.Catalogs as spec;
 ghost use Rattle.catalog_load.specs.Machine as machine;
 ghost use Rattle.catalog_load.specs.Machine.{Finds};
 
-use postquel_tokens::{Ident, Sign, Token, TokenKind};
+use postquel_tokens::{Ident, Sign, Token, TokenKind, key_of};
 use rows::{ColType, Text};
 use std::alloc::{AllocError, AllocFailed, Global};
 
@@ -38,45 +38,11 @@ impl<T: Drop> From<AllocFailed<T>> for Halt {
     }
 }
 
-/// The names that no relation and no column may have.
-const KEYS: [&[u8]; 18] = [
-    b"retrieve",
-    b"unique",
-    b"from",
-    b"in",
-    b"where",
-    b"sort",
-    b"by",
-    b"using",
-    b"and",
-    b"or",
-    b"not",
-    b"true",
-    b"false",
-    b"all",
-    b"into",
-    b"null",
-    b"is",
-    b"machine",
-];
-
 #[tactic(auto, unfolding(crate::specs::Catalogs::is_key))]
 fn is_key(name: &[u8]) -> bool
     ensures { result ≡ spec.is_key name.now }
 {
-    is_among(&KEYS, name)
-}
-
-fn is_among(mut names: &[&[u8]], name: &[u8]) -> bool
-    ensures { result ≡ spec.is_among (map (λ k. k.now) names.entry.now) name.now }
-{
-    while let [first, rest @ ..] = names {
-        if *first == name {
-            return true;
-        }
-        names = rest;
-    }
-    false
+    key_of(name).is_some()
 }
 
 // Whether a token is this name.

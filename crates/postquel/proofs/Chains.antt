@@ -6,7 +6,7 @@ use Rattle.postquel_tokens.specs.declared.fault.What.{What}
 use Rattle.postquel_tokens.specs.declared.fault.What.TheVariants as what
 use Rattle.postquel.specs.declared.class.Class.{Class}
 use Rattle.postquel.specs.declared.class.Class.TheVariants as class
-use Rattle.postquel.specs.declared.class.Key.TheVariants as key
+use Rattle.postquel_tokens.specs.declared.name.Key.TheVariants as key
 use Rattle.postquel_tokens.specs.declared.token.Sign.TheVariants as sign
 use Rattle.postquel_tokens.specs.declared.form.BinaryOp.{BinaryOp}
 use Rattle.postquel_tokens.specs.declared.form.UnaryOp.{UnaryOp}
@@ -16,8 +16,8 @@ use Rattle.postquel.specs.declared.level.Level.{Level}
 use Rattle.postquel.specs.declared.level.Level.TheVariants as level
 use Rattle.postquel.specs.Level.{next, between, before}
 use Rattle.postquel_tokens.specs.declared.token.TokenKind.TheVariants as kind
-use Rattle.postquel.specs.declared.class.Key.{Key}
-use Rattle.postquel.specs.Class.{key_of}
+use Rattle.postquel_tokens.specs.declared.name.Key.{Key}
+use Rattle.postquel_tokens.specs.Names.{key_of}
 use Rattle.postquel.specs.Parts.{OrNone, absent, present}
 use Rattle.postquel.specs.Input.{Input, Stop, Outcome, Parser, and_then, ◌>>=◌, ◌>>◌, pure, peek, take, first, expect_key}
 use Rattle.postquel.specs.Grammar.{longer_by, climb, denial, null_test, compared_by, chained as chained_rule, compared as compared_rule}

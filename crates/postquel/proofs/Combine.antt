@@ -10,8 +10,8 @@ use Rattle.postquel_tokens.specs.declared.token.Sign.{Sign}
 use Rattle.postquel_tokens.specs.declared.token.Sign.TheVariants as sign
 use Rattle.postquel_tokens.specs.declared.token.TokenKind.TheVariants as kind
 use Rattle.postquel_tokens.specs.contracts.token.Sign as sign_type
-use Rattle.postquel.specs.contracts.class.Key as key_type
-use Rattle.postquel.specs.declared.class.Key.{Key}
+use Rattle.postquel_tokens.specs.contracts.name.Key as key_type
+use Rattle.postquel_tokens.specs.declared.name.Key.{Key}
 use Rattle.postquel.specs.Parts.{OrNone, absent, present}
 use denote.Enum.Bare.{same_true, true_same}
 use Rattle.postquel.specs.Input.{Input, Stop, Outcome, Parser, and_then, ◌>>=◌, pure, stop, peek, take, first, ◌>>◌, is_mark, is_key, expect, expect_key, or_none}

@@ -11,12 +11,13 @@ use Rattle.postquel_tokens.specs.Forms.{Phrase, Wish, Titled, Folded}
 use Rattle.postquel_tokens.specs.Forms as form
 use Rattle.postquel.specs.declared.class.Class.{Class}
 use Rattle.postquel.specs.declared.class.Class.TheVariants as class
-use Rattle.postquel.specs.declared.class.Key.TheVariants as key
+use Rattle.postquel_tokens.specs.declared.name.Key.TheVariants as key
 use Rattle.postquel.specs.declared.class.Soft.{Soft}
 use Rattle.postquel.specs.declared.class.Soft.TheVariants as soft
 use Rattle.postquel.specs.declared.level.Level.{Level}
 use Rattle.postquel.specs.declared.level.Level.TheVariants as level
-use Rattle.postquel.specs.Class.{looks, key_of, soft_of}
+use Rattle.postquel.specs.Class.{looks, soft_of}
+use Rattle.postquel_tokens.specs.Names.{key_of}
 use Rattle.postquel.specs.Level.{before}
 use Rattle.postquel.specs.Input.{Input, Stop, Outcome, Parser, and_then, ◌>>=◌, pure, take, first, second, expect}
 use Rattle.postquel.specs.Grammar.{ident, ident_by, ident_of, disjunction, nested, prefixed as prefixed_rule, compared as compared_rule, chained as chained_rule, prefixed_by, form_at, atom, atom_by, leaf, leaf_by, dotted as dotted_rule}

@@ -7,7 +7,7 @@ use Rattle.postquel_tokens.specs.declared.fault.What.{What}
 use Rattle.postquel_tokens.specs.declared.fault.What.TheVariants as what
 use Rattle.postquel.specs.declared.class.Class.{Class}
 use Rattle.postquel.specs.declared.class.Class.TheVariants as class
-use Rattle.postquel.specs.declared.class.Key.TheVariants as key
+use Rattle.postquel_tokens.specs.declared.name.Key.TheVariants as key
 use Rattle.postquel_tokens.specs.declared.token.Sign.TheVariants as sign
 use Rattle.postquel_tokens.specs.declared.form.Ident.{Ident}
 use Rattle.postquel_tokens.specs.declared.form.UnaryOp.{UnaryOp}
@@ -16,7 +16,8 @@ use Rattle.postquel_tokens.specs.Forms as form
 use Rattle.postquel.specs.declared.level.Level.{Level}
 use Rattle.postquel.specs.declared.level.Level.TheVariants as level
 use Rattle.postquel.specs.Level.{before}
-use Rattle.postquel.specs.Class.{key_of, soft_of}
+use Rattle.postquel.specs.Class.{soft_of}
+use Rattle.postquel_tokens.specs.Names.{key_of}
 use Rattle.postquel.specs.declared.class.Soft.{Soft}
 use Rattle.postquel.specs.declared.class.Soft.TheVariants as soft
 use Rattle.postquel.specs.Input.{Parser, ◌>>=◌, pure, take, first, expect}

@@ -12,8 +12,9 @@ use Rattle.postquel_tokens.specs.declared.token.TokenKind.{TokenKind}
 use Rattle.postquel_tokens.specs.declared.token.TokenKind.TheVariants as kind
 use Rattle.postquel_tokens.specs.Lex.{Piece, Wrong, is_in, run_len, value, name, number, worded, marked, mark, piece, body, is_blank, after, start, Tokens, prepend, behind, tokens_from, tokens_of, lex_of}
 use Rattle.postquel.specs.declared.class.Class.TheVariants as class
-use Rattle.postquel.specs.declared.class.Key.{Key}
-use Rattle.postquel.specs.Class.{class_of, named, key_of}
+use Rattle.postquel_tokens.specs.declared.name.Key.{Key}
+use Rattle.postquel.specs.Class.{class_of, named}
+use Rattle.postquel_tokens.specs.Names.{key_of}
 use Rattle.postquel.specs.Reading.{IsText, IsLexed}
 
 named_no_end : (o : Option Key) (n : List ℕ) → named o n ≢ class.End

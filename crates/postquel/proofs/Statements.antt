@@ -12,11 +12,12 @@ use Rattle.postquel_tokens.specs.declared.form.StepForm.{StepForm}
 use Rattle.postquel_tokens.specs.Forms.{Wish, Condition, Sentence}
 use Rattle.postquel.specs.declared.class.Class.{Class}
 use Rattle.postquel.specs.declared.class.Class.TheVariants as class
-use Rattle.postquel.specs.declared.class.Key.{Key}
-use Rattle.postquel.specs.declared.class.Key.TheVariants as key
+use Rattle.postquel_tokens.specs.declared.name.Key.{Key}
+use Rattle.postquel_tokens.specs.declared.name.Key.TheVariants as key
 use Rattle.postquel.specs.declared.class.Soft.TheVariants as soft
 use Rattle.postquel.specs.declared.level.Level.TheVariants as level
-use Rattle.postquel.specs.Class.{looks, key_of, soft_of}
+use Rattle.postquel.specs.Class.{looks, soft_of}
+use Rattle.postquel_tokens.specs.Names.{key_of}
 use Rattle.postquel.specs.Program.{Program}
 use Rattle.postquel.specs.Input.{Input, Parser, ◌>>=◌, pure, take, first, expect, expect_key}
 use Rattle.postquel.specs.Grammar.{ident, ident_of, number_of, disjunction, nested}

@@ -11,9 +11,10 @@ use Rattle.postquel_tokens.specs.declared.form.KeyForm.{KeyForm}
 use Rattle.postquel_tokens.specs.Forms.{Wish, Titled, Every, Column}
 use Rattle.postquel.specs.declared.class.Class.{Class}
 use Rattle.postquel.specs.declared.class.Class.TheVariants as class
-use Rattle.postquel.specs.declared.class.Key.TheVariants as key
+use Rattle.postquel_tokens.specs.declared.name.Key.TheVariants as key
 use Rattle.postquel.specs.declared.level.Level.TheVariants as level
-use Rattle.postquel.specs.Class.{looks, key_of}
+use Rattle.postquel.specs.Class.{looks}
+use Rattle.postquel_tokens.specs.Names.{key_of}
 use Rattle.postquel.specs.Input.{◌>>=◌, pure, peek, take, first, expect_key}
 use Rattle.postquel.specs.Grammar.{ident, ident_of}
 use Rattle.postquel.specs.Parts.{OrNone, absent, Listed}

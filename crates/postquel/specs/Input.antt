@@ -2,9 +2,9 @@
 use Rattle.std.specs.Prelude.{◌≡◌, ℕ, zero, suc, List, [], ◌∷◌, Result, Ok, Err, Bool, false, if◌then◌else◌}
 use denote.Enum.Bare.{sameb}
 use Rattle.postquel_tokens.specs.contracts.token.Sign as sign_type
-use Rattle.postquel.specs.contracts.class.Key as key_type
+use Rattle.postquel_tokens.specs.contracts.name.Key as key_type
 use Rattle.postquel_tokens.specs.declared.token.Sign.{Sign}
-use Rattle.postquel.specs.declared.class.Key.{Key}
+use Rattle.postquel_tokens.specs.declared.name.Key.{Key}
 use Rattle.postquel_tokens.specs.declared.token.Token.{Token}
 use Rattle.postquel_tokens.specs.declared.fault.What.{What}
 use Rattle.postquel_tokens.specs.declared.fault.What.TheVariants as what

@@ -2,7 +2,7 @@
 use Rattle.std.specs.Prelude.{Option, Some, None}
 use Rattle.postquel.specs.declared.class.Class.{Class}
 use Rattle.postquel.specs.declared.class.Class.TheVariants as class
-use Rattle.postquel.specs.declared.class.Key.TheVariants as key
+use Rattle.postquel_tokens.specs.declared.name.Key.TheVariants as key
 use Rattle.postquel_tokens.specs.declared.token.Sign.{Sign}
 use Rattle.postquel_tokens.specs.declared.token.Sign.TheVariants as sign
 use Rattle.postquel_tokens.specs.declared.form.UnaryOp.{UnaryOp}

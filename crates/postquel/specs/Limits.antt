@@ -6,7 +6,7 @@ use Rattle.postquel_tokens.specs.declared.fault.What.TheVariants as what
 use Rattle.postquel_tokens.specs.declared.token.Token.{Token}
 use Rattle.postquel.specs.declared.class.Class.{Class}
 use Rattle.postquel.specs.declared.class.Class.TheVariants as class
-use Rattle.postquel.specs.declared.class.Key.TheVariants as key
+use Rattle.postquel_tokens.specs.declared.name.Key.TheVariants as key
 use Rattle.postquel_tokens.specs.declared.token.Sign.TheVariants as sign
 use Rattle.postquel.specs.Class.{class_of}
 

@@ -11,7 +11,7 @@ use Rattle.postquel_tokens.specs.declared.form.StepForm.{StepForm}
 use Rattle.postquel_tokens.specs.Forms.{Wish, Titled, Every, Column, Folded, Condition, Sentence}
 use Rattle.postquel.specs.declared.class.Class.{Class}
 use Rattle.postquel.specs.declared.class.Class.TheVariants as class
-use Rattle.postquel.specs.declared.class.Key.TheVariants as key
+use Rattle.postquel_tokens.specs.declared.name.Key.TheVariants as key
 use Rattle.postquel.specs.declared.class.Soft.TheVariants as soft
 use Rattle.postquel.specs.Program.{Program}
 use Rattle.postquel.specs.Input.{Parser, ◌>>=◌, ◌>>◌, pure, stop, peek, take, first, second, expect, expect_key, or_none}

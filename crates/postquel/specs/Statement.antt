@@ -8,7 +8,7 @@ use Rattle.postquel_tokens.specs.declared.form.IntoForm.{IntoForm}
 use Rattle.postquel_tokens.specs.declared.form.StepForm.{StepForm}
 use Rattle.postquel_tokens.specs.Forms.{Phrase, Wish, Titled, Every, Column, Folded, Condition, Sentence}
 use Rattle.postquel.specs.declared.class.Class.TheVariants as class
-use Rattle.postquel.specs.declared.class.Key.TheVariants as key
+use Rattle.postquel_tokens.specs.declared.name.Key.TheVariants as key
 use Rattle.postquel.specs.declared.class.Soft.{Soft}
 use Rattle.postquel.specs.declared.class.Soft.TheVariants as soft
 use Rattle.postquel.specs.declared.level.Level.TheVariants as level

@@ -3,7 +3,7 @@ use Rattle.std.specs.Prelude.{◌≡◌, ℕ, zero, suc, true, false, List, [], 
 use Rattle.postquel_tokens.specs.declared.token.Token.{Token}
 use Rattle.postquel.specs.declared.class.Class.{Class}
 use Rattle.postquel.specs.declared.class.Class.TheVariants as class
-use Rattle.postquel.specs.declared.class.Key.TheVariants as key
+use Rattle.postquel_tokens.specs.declared.name.Key.TheVariants as key
 use Rattle.postquel_tokens.specs.declared.token.Sign.TheVariants as sign
 use Rattle.postquel_tokens.specs.declared.form.UnaryOp.{UnaryOp}
 use Rattle.postquel_tokens.specs.declared.form.BinaryOp.{BinaryOp}

@@ -1,32 +1,11 @@
 //! The class by which the grammar tells tokens apart.
 
-ghost use Rattle.std.specs.Prelude.{◌≡◌, map};
+ghost use Rattle.std.specs.Prelude.{◌≡◌};
 ghost use Rattle.postquel.specs.Class as spec;
+ghost use Rattle.postquel_tokens.specs.Names.{key_of as key_at};
 
-use postquel_tokens::{Sign, TokenKind};
-
-/// A name that no variable, column or relation may have.
-#[derive(Clone, Copy, Debug, PartialEq, Eq)]
-pub enum Key {
-    Retrieve,
-    Unique,
-    From,
-    In,
-    Where,
-    Sort,
-    By,
-    Using,
-    And,
-    Or,
-    Not,
-    True,
-    False,
-    All,
-    Into,
-    Null,
-    Is,
-    Machine,
-}
+pub use postquel_tokens::Key;
+use postquel_tokens::{Sign, TokenKind, is_fold, key_of};
 
 /// What a name that is no key may stand for at certain places.
 #[derive(Clone, Copy, Debug, PartialEq, Eq)]
@@ -47,75 +26,24 @@ pub enum Class {
     End,
 }
 
-const KEYS: [(&[u8], Key); 18] = [
-    (b"retrieve", Key::Retrieve),
-    (b"unique", Key::Unique),
-    (b"from", Key::From),
-    (b"in", Key::In),
-    (b"where", Key::Where),
-    (b"sort", Key::Sort),
-    (b"by", Key::By),
-    (b"using", Key::Using),
-    (b"and", Key::And),
-    (b"or", Key::Or),
-    (b"not", Key::Not),
-    (b"true", Key::True),
-    (b"false", Key::False),
-    (b"all", Key::All),
-    (b"into", Key::Into),
-    (b"null", Key::Null),
-    (b"is", Key::Is),
-    (b"machine", Key::Machine),
-];
-
-const SOFT_NAMES: [(&[u8], Soft); 5] = [
-    (b"after", Soft::After),
-    (b"count", Soft::Fold),
-    (b"min", Soft::Fold),
-    (b"max", Soft::Fold),
-    (b"sum", Soft::Fold),
-];
-
-#[tactic(auto, unfolding(crate::specs::Class::key_of))]
-fn key_of(text: &[u8]) -> Option<Key>
-    ensures { result ≡ spec.key_of text.now }
-{
-    lookup_key(&KEYS, text)
-}
+// The name that stands between a degree and a number of finishes.
+const AFTER: &[u8] = b"after";
 
 #[tactic(auto, unfolding(crate::specs::Class::soft_of))]
 fn soft_of(text: &[u8]) -> Soft
     ensures { result ≡ spec.soft_of text.now }
 {
-    lookup_soft(&SOFT_NAMES, text)
-}
-
-fn lookup_key(mut table: &[(&[u8], Key)], text: &[u8]) -> Option<Key>
-    ensures { result ≡ spec.lookup (map (λ k. (k.0.now, k.1)) table.entry.now) text.now }
-{
-    while let [entry, rest @ ..] = table {
-        if entry.0 == text {
-            return Some(entry.1);
-        }
-        table = rest;
+    if text == AFTER {
+        Soft::After
+    } else if is_fold(text) {
+        Soft::Fold
+    } else {
+        Soft::Plain
     }
-    None
-}
-
-fn lookup_soft(mut table: &[(&[u8], Soft)], text: &[u8]) -> Soft
-    ensures { result ≡ spec.or_plain (spec.lookup (map (λ k. (k.0.now, k.1)) table.entry.now) text.now) }
-{
-    while let [entry, rest @ ..] = table {
-        if entry.0 == text {
-            return entry.1;
-        }
-        table = rest;
-    }
-    Soft::Plain
 }
 
 fn name_class(text: &[u8]) -> Class
-    ensures { result ≡ spec.named (spec.key_of text.now) text.now }
+    ensures { result ≡ spec.named (key_at text.now) text.now }
 {
     match key_of(text) {
         Some(key) => Class::Key(key),

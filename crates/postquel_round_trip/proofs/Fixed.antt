@@ -11,11 +11,12 @@ use Rattle.postquel_tokens.specs.declared.form.BinaryOp.TheVariants as binary
 use Rattle.postquel_tokens.specs.Lex.{after, piece, marked, mark, prepend, behind, tokens_from}
 use Rattle.postquel.specs.declared.class.Class.{Class}
 use Rattle.postquel.specs.declared.class.Class.TheVariants as class
-use Rattle.postquel.specs.declared.class.Key.TheVariants as key
+use Rattle.postquel_tokens.specs.declared.name.Key.TheVariants as key
 use Rattle.postquel.specs.declared.class.Soft.TheVariants as soft
 use Rattle.postquel.specs.declared.level.Level.{Level}
 use Rattle.postquel.specs.declared.level.Level.TheVariants as level
-use Rattle.postquel.specs.Class.{key_of, soft_of}
+use Rattle.postquel.specs.Class.{soft_of}
+use Rattle.postquel_tokens.specs.Names.{key_of}
 use Rattle.postquel.specs.Level.{before, between}
 use Rattle.postquel.specs.Print.{symbol, prefix_symbol}
 use Rattle.postquel_round_trip.proofs.Strengths.{binds, prefix_binds}

@@ -6,7 +6,7 @@ use Rattle.postquel_tokens.specs.declared.token.Sign.TheVariants as sign
 use Rattle.postquel_tokens.specs.declared.form.StepForm.{StepForm}
 use Rattle.postquel_tokens.specs.Forms.{Sentence}
 use Rattle.postquel.specs.declared.class.Class.TheVariants as class
-use Rattle.postquel.specs.declared.class.Key.TheVariants as key
+use Rattle.postquel_tokens.specs.declared.name.Key.TheVariants as key
 use Rattle.postquel.specs.Class.{looks}
 use Rattle.postquel.specs.Parts.{OrNone, absent, present, Listed, listed}
 use Rattle.postquel.specs.Print.{joined, step_text, sentence_text, sentences_text, machine_text, script_text}

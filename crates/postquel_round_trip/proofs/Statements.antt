@@ -11,7 +11,7 @@ use Rattle.postquel_tokens.specs.declared.form.IntoForm.{IntoForm}
 use Rattle.postquel_tokens.specs.Forms.{Phrase, Wish, Condition, Sentence}
 use Rattle.postquel.specs.declared.class.Class.{Class}
 use Rattle.postquel.specs.declared.class.Class.TheVariants as class
-use Rattle.postquel.specs.declared.class.Key.TheVariants as key
+use Rattle.postquel_tokens.specs.declared.name.Key.TheVariants as key
 use Rattle.postquel.specs.declared.class.Soft.{Soft}
 use Rattle.postquel.specs.declared.level.Level.TheVariants as level
 use Rattle.postquel.specs.Class.{looks}

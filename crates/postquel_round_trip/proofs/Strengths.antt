@@ -10,7 +10,7 @@ use Rattle.postquel_tokens.specs.Forms.{Phrase}
 use Rattle.postquel_tokens.specs.Forms as form
 use Rattle.postquel.specs.declared.class.Class.{Class}
 use Rattle.postquel.specs.declared.class.Class.TheVariants as class
-use Rattle.postquel.specs.declared.class.Key.TheVariants as key
+use Rattle.postquel_tokens.specs.declared.name.Key.TheVariants as key
 use Rattle.postquel.specs.declared.level.Level.{Level}
 use Rattle.postquel.specs.declared.level.Level.TheVariants as level
 use Rattle.postquel.specs.Level.{next, before, between}

@@ -4,9 +4,10 @@ use Rattle.postquel_tokens.specs.declared.token.Token.{Token}
 use Rattle.postquel_tokens.specs.declared.token.TokenKind.{TokenKind}
 use Rattle.postquel_tokens.specs.declared.token.TokenKind.TheVariants as kind
 use Rattle.postquel.specs.declared.class.Class.TheVariants as class
-use Rattle.postquel.specs.declared.class.Key.{Key}
+use Rattle.postquel_tokens.specs.declared.name.Key.{Key}
 use Rattle.postquel.specs.declared.class.Soft.{Soft}
-use Rattle.postquel.specs.Class.{key_of, class_of, named}
+use Rattle.postquel.specs.Class.{class_of, named}
+use Rattle.postquel_tokens.specs.Names.{key_of}
 use Rattle.postquel.specs.Grammar.{number_of, text_of}
 use Rattle.postquel_round_trip.proofs.Literals.{IsName, IsWord}
 

@@ -4,6 +4,7 @@
 mod fault;
 mod form;
 mod lexer;
+mod name;
 mod piece;
 mod token;
 
@@ -13,6 +14,7 @@ pub use form::{
     StatementList, StepForm, StepFormList, TargetForm, TargetFormList, TestForm, UnaryOp,
 };
 pub use lexer::lex;
+pub use name::{Key, is_fold, key_of};
 pub use token::{Sign, Token, TokenKind, TokenList};
 
 #[cfg(test)]

@@ -1,6 +1,6 @@
 use Rattle.std.proofs.Common.{◌≡◌, length, map}
-use Rattle.postquel.specs.Class.{lookup}
-use Rattle.postquel.proofs.class.lookup_soft.Given as goal
+use Rattle.postquel_tokens.specs.Names.{lookup}
+use Rattle.postquel_tokens.proofs.name.find.Given as goal
 
 abbrev pub invariant-loop-table : goal.invariant-loop-table
 invariant-loop-table l = lookup (map (λ k. (k.0.now, k.1)) l.table) l.text ≡ lookup (map (λ k. (k.0.now, k.1)) l.initial.table) l.text
