@@ -17,7 +17,7 @@ use Rattle.adjust_protocol.specs.History.{Setting, last_claim, deposited, Once, 
 use Rattle.adjust_protocol.specs.Calls.{fresh, Call, Ran, then_events, then_calls, history_of, IsLawful}
 use Rattle.adjust_protocol.specs.Told.{Divides, Told, marks_claim, marks_settle, marks_divide, are_deposited, last_is, full_told, left_told}
 
-free_told : (S : Setting) (h : List Move) (s : Running) → Told S h s → (role : ℕ) → role < 64 → is_free_in S h role ≡ is_free s role
+pub free_told : (S : Setting) (h : List Move) (s : Running) → Told S h s → (role : ℕ) → role < 64 → is_free_in S h role ≡ is_free s role
 free_told S h s t role lt =
     let f : Bool → List ℕ → Option ℕ → Bool = λ b left o. not b && (ltb 0 (length left) || is_below o role) in
     ap (λ b. f b (left_in S h role) (pending_in S h)) (t.held role lt)
@@ -36,7 +36,7 @@ count_taken xs (suc n) h =
       | inr e ↦ let more = count_by_more_no (λ b. b) xs n false lt e in simp e (subst (λ (k : ℕ). sum_below n (λ r. cond (get_or xs r false) 1 0) + 0 ≡ count_by (λ b. b) (take k xs)) z (let y : sum_below n (λ r. cond (get_or xs r false) 1 0) + 0 ≡ sum_below n (λ r. cond (get_or xs r false) 1 0) = omega arith in y ∙ ih ∙ sym more))
     ]
 
-holders_told : (S : Setting) (h : List Move) (s : Running) → Told S h s → holders_in h ≡ holders s
+pub holders_told : (S : Setting) (h : List Move) (s : Running) → Told S h s → holders_in h ≡ holders s
 holders_told S h s t =
     sum_below_same 64 (λ r. cond (held_in h r) 1 0) (λ r. cond (get_or s.held r false) 1 0) (λ r lt. ap (λ b. cond {A = ℕ} b 1 0) (t.held r lt))
     ∙ count_taken s.held 64 (let e = t.roles in omega arith) ∙ ap (count_by (λ b. b)) (take_all 64 s.held (let e = t.roles in omega arith))
@@ -44,10 +44,10 @@ holders_told S h s t =
 idle_told : (S : Setting) (h : List Move) (s : Running) → Told S h s → IsIdle s.scan.marks → IsIdleIn h
 idle_told S h s t idle r lt = t.marks.outs r lt ∙ idle r lt
 
-calm_told : (S : Setting) (h : List Move) (s : Running) → Told S h s → (IsDue s → ⊥) → IsDueIn S h → ⊥
+pub calm_told : (S : Setting) (h : List Move) (s : Running) → Told S h s → (IsDue s → ⊥) → IsDueIn S h → ⊥
 calm_told S h s t calm due = calm (λ e. due.0 (t.pending ∙ e), λ r lt. sym (t.marks.outs r lt) ∙ due.1 r lt)
 
-wanted_told : (S : Setting) (h : List Move) (s : Running) → Told S h s → wanted_in S h ≡ wanted s
+pub wanted_told : (S : Setting) (h : List Move) (s : Running) → Told S h s → wanted_in S h ≡ wanted s
 wanted_told S h s t = ap (λ o. unwrap_or o (degree_in S h)) t.pending ∙ ap (λ n. unwrap_or s.asked n) t.degree
 
 -- what is allowed in a state is allowed after a history that tells it
@@ -188,7 +188,7 @@ nothing_held (suc n) zero = refl
 nothing_held (suc n) (suc r) = nothing_held n r
 
 -- the empty history tells the state of a board that has just begun
-told_start : (rule : Rule) (S : Setting) (room : ℕ) → IsRule rule → AllOwned (S.owns S.positions S.degree []) 0 (rule.redivided S.degree (replicate S.positions (Left 0))) → 1 ≤ S.degree → S.degree ≤ 64
+pub told_start : (rule : Rule) (S : Setting) (room : ℕ) → IsRule rule → AllOwned (S.owns S.positions S.degree []) 0 (rule.redivided S.degree (replicate S.positions (Left 0))) → 1 ≤ S.degree → S.degree ≤ 64
     → Told S [] (fresh rule S.positions S.degree room)
 told_start rule S room laws owned low high =
     let start = replicate S.positions (Left 0) in

@@ -6,6 +6,7 @@ ghost use Rattle.adjust_protocol.specs.Moves.{Running, Rule, Makes, is_full, is_
 ghost use Rattle.page_partition.specs.Scan.{IsIdle};
 ghost use Rattle.page_partition.specs.Counts.{IsMadeUp};
 ghost use Rattle.adjust_protocol.specs.Full.{Kept, CollectAnswer};
+ghost use Rattle.adjust_protocol.specs.Kept.{IsCalm};
 ghost use Rattle.adjust_protocol.specs.Calls.{fresh, IsLawfulAlways};
 ghost use Rattle.adjust_protocol.specs.Outputs.{put_outputs};
 
@@ -181,6 +182,15 @@ impl<V: Division, T: Drop> Board<V, T> {
         ensures outputs { self.new.outputs ≡ self.old.outputs }
     {
         self.turns.uncollect();
+    }
+
+    /// What every board shows between two calls: an output stands exactly at each deposited position, a
+    /// pending degree has a batch out and room for its divide, and every degree is 1 to 64. It does nothing.
+    pub fn is_calm(&self)
+        ensures { IsCalm self.now }
+    {
+        let _ = &self.outputs;
+        self.turns.is_calm();
     }
 
     /// Whether every position is deposited. For every list of calls that led here from a board that had

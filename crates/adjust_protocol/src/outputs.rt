@@ -32,6 +32,20 @@ impl<T: Drop> ArcList<T> {
         }
     }
 
+    /// The list of these values. It takes no memory.
+    pub fn from_vec(items: Vec<Arc<T>>) -> Self
+        ensures { result ≡ map (λ x. x.value) items.items }
+    {
+        ArcList { items }
+    }
+
+    /// The values of this list. It takes no memory.
+    pub fn into_vec(self) -> Vec<Arc<T>>
+        ensures { map (λ x. x.value) result.items ≡ self }
+    {
+        self.items
+    }
+
     /// How many values there are.
     pub fn len(&self) -> usize
         ensures { result ≡ length self.now }

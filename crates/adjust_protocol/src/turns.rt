@@ -1,6 +1,7 @@
 ghost use Rattle.std.specs.Prelude.{◌≡◌, ℕ, ◌<◌, ◌≤◌, [], ◌∷◌, length, true, false, IfOk, Some, None, replicate, ◌+◌, ◌-◌, not, is_some, ◌↔◌, IsTrue};
 ghost use Rattle.std.specs.Bool.{OnTrue};
-ghost use Rattle.page_partition.specs.Scan.{left_of, out_of, places, is_deposited, IsIdle};
+ghost use Rattle.page_partition.specs.Scan.{left_of, out_of, places, is_deposited, AllNamed, IsIdle};
+ghost use Rattle.adjust_protocol.specs.Kept.{IsDegree};
 ghost use Rattle.page_partition.specs.Counts.{IsMadeUp};
 ghost use Rattle.page_partition.specs.declared.table.Mark.TheVariants.{Left};
 ghost use Rattle.adjust_protocol.specs.Moves.{Running, Rule, Makes, IsDue, is_full, is_held, is_free, holders, wanted};
@@ -25,13 +26,13 @@ pub struct Turns<V: Division> {
 impl<V: Division> Model for Turns<V> {
     ghost use Rattle.std.specs.Prelude.{◌≡◌};
     ghost use Rattle.adjust_protocol.specs.Moves.{Running};
-    ghost use Rattle.adjust_protocol.specs.Kept.{IsKept};
+    ghost use Rattle.adjust_protocol.specs.Kept.{IsKept, IsDegree};
 
     ghost Value = { Running };
 
     ghost view = { λ b. record { scan = V.scan b.division; held = b.held; asked = b.asked; collecting = b.collecting } };
 
-    ghost invariant = { λ b. IsKept (record { scan = V.scan b.division; held = b.held; asked = b.asked; collecting = b.collecting }) b.missing × (b.degree ≡ (V.scan b.division).degree) };
+    ghost invariant = { λ b. IsKept (record { scan = V.scan b.division; held = b.held; asked = b.asked; collecting = b.collecting }) b.missing × (b.degree ≡ (V.scan b.division).degree) × IsDegree b.degree };
 }
 
 impl<V: Division> Turns<V> {
@@ -146,6 +147,17 @@ impl<V: Division> Turns<V> {
         }
         self.asked = Some(degree);
         Asked::Pending
+    }
+
+    /// What every scan keeps between two calls. It does nothing.
+    pub fn is_calm(&self)
+        ensures calm { IsDue self.now → ⊥ }
+        ensures degree { IsDegree self.now.scan.degree }
+        ensures pending { (n : ℕ) → self.now.asked ≡ Some n → IsDegree n × (0 < self.now.scan.room) }
+        ensures roles { length self.now.held ≡ 64 }
+        ensures named { AllNamed self.now.scan.marks }
+    {
+        let _ = &self.division;
     }
 
     /// Whether every position is deposited.

@@ -33,6 +33,7 @@ invariant_of-self g c =
       subst (λ (o : Option ℕ). IsKept (record s { scan = g.V.Division.scan c.divide-cut.new.self; asked = o }) c.self.inside.missing) (sym none)
           (kept_divide rule laws s c.self.inside.missing c.args.degree (g.V.Division.scan c.divide-cut.new.self) c.requires.low c.requires.high c.divide-cut.ensures.after c.self.invariant.0.sound),
       sym (ap (λ (z : Scan). z.degree) c.divide-cut.ensures.after),
+      (c.requires.low, c.requires.high),
     )
 
 pub returns-then-is_idle-clause-moves : goal.returns-then-is_idle-clause-moves

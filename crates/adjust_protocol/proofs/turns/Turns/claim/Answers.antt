@@ -16,6 +16,7 @@ invariant_of-self g c =
     let none = none_of c.self.inside.asked (sym c.is_some.ensures ∙ c.if-is_some.false) in (
       kept_claim s c.self.inside.missing c.args.most c.args.role _ c.requires.role none c.take_first.ensures.after c.self.invariant.0,
       c.self.invariant.1 ∙ sym (ap (λ (z : Scan). z.degree) c.take_first.ensures.after),
+      c.self.invariant.2,
     )
 
 pub returns-clause-moves : goal.returns-clause-moves

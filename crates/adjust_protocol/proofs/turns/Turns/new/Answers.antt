@@ -10,4 +10,5 @@ invariant_of-result g c =
     let laws : IsRule rule = record { deposits_kept = g.met.V.Division.deposits_kept; positions_kept = g.met.V.Division.positions_kept; none_out = g.met.V.Division.none_out; named = g.met.V.Division.named } in (
       kept_new rule laws c.args.positions c.args.degree c.args.asks _ (g.V.Division.scan c.in_ok-division.division) (omega arith) c.requires.low c.requires.high refl c.in_ok-division.ensures,
       sym (ap (λ (z : Scan). z.degree) c.in_ok-division.ensures),
+      (c.requires.low, c.requires.high),
     )

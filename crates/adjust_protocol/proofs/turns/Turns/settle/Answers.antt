@@ -17,6 +17,7 @@ invariant_of-self g c =
     let few = subst (λ (z : Running). c.args.count ≤ length (out_of z.scan.marks c.args.role)) (sym c.self.view_is) c.requires.count in (
       kept_finished s c.self.inside.missing c.args.role c.args.count (g.V.Division.scan c.give_back.new.self) c.requires.role few c.give_back.ensures.after c.self.invariant.0,
       c.self.invariant.1 ∙ sym (ap (λ (z : Scan). z.degree) c.give_back.ensures.after),
+      c.self.invariant.2,
     )
 
 pub returns-then-is_complete-clause-moves : goal.returns-then-is_complete-clause-moves
@@ -41,6 +42,7 @@ invariant_of-self-in_default g c =
     let few = subst (λ (z : Running). c.args.count ≤ length (out_of z.scan.marks c.args.role)) (sym c.self.view_is) c.requires.count in (
       kept_more s c.self.inside.missing c.args.role c.args.count (g.V.Division.scan c.give_back.new.self) c.requires.role few c.give_back.ensures.after (λ d. d.0 c.in_default.is) c.self.invariant.0,
       c.self.invariant.1 ∙ sym (ap (λ (z : Scan). z.degree) c.give_back.ensures.after),
+      c.self.invariant.2,
     )
 
 pub returns-in_default-clause-answer : goal.returns-in_default-clause-answer
@@ -57,6 +59,7 @@ invariant_of-self-then-not-is_idle g c =
     let few = subst (λ (z : Running). c.args.count ≤ length (out_of z.scan.marks c.args.role)) (sym c.self.view_is) c.requires.count in (
       kept_more s c.self.inside.missing c.args.role c.args.count (g.V.Division.scan c.give_back.new.self) c.requires.role few c.give_back.ensures.after (λ d. false≢true (sym c.if-not-is_idle.true ∙ c.is_idle.ensures.1 d.1)) c.self.invariant.0,
       c.self.invariant.1 ∙ sym (ap (λ (z : Scan). z.degree) c.give_back.ensures.after),
+      c.self.invariant.2,
     )
 
 pub returns-then-not-is_idle-clause-moves : goal.returns-then-not-is_idle-clause-moves
@@ -91,6 +94,7 @@ invariant_of-self-2 g c =
       kept_divide rule laws (record s { scan = record s.scan { marks = given_back c.args.role c.args.count s.scan.marks } }) (c.self.inside.missing - c.args.count) c.in-Some.degree (g.V.Division.scan c.divide-cut.new.self) range.0 range.1
           (c.divide-cut.ensures.after ∙ ap (λ (z : Scan). record { marks = rule.redivided c.in-Some.degree z.marks; degree = c.in-Some.degree; room = z.room - 1 }) c.give_back.ensures.after) mid,
       sym (ap (λ (z : Scan). z.degree) c.divide-cut.ensures.after),
+      (range.0, range.1),
     )
 
 pub returns-clause-moves : goal.returns-clause-moves
