@@ -1,8 +1,13 @@
-ghost use Rattle.std.specs.Prelude.{◌≡◌, ◌≤◌, None, OnOk, IfOk, vec_len};
+ghost use Rattle.std.specs.Prelude.{◌≡◌, ◌≤◌, ◌<◌, None, Err, IfOk, IfSome, OnErr, length, take, vec_len};
+ghost use Rattle.std.specs.Io.KnownBytes.{Consumes, IsAtEnd, Keeps};
+ghost use Rattle.std.specs.IoError.{error_kind};
+ghost use Rattle.xprs_cli.specs.Answers.{answer_of, opening_answer};
+ghost use Rattle.xprs_cli.specs.declared.folder.ReadErr.TheVariants as cause;
 
+use crate::page_file::is_interrupted;
 use std::alloc::Global;
 use std::fs::File;
-use std::io::Read;
+use std::io::{self, ErrorKind, Read};
 use std::rt::Files;
 use xp_outside::{Shelf, ShelfErr};
 
@@ -23,8 +28,9 @@ impl<'a, R: Files> FolderShelf<'a, R> {
     }
 }
 
-// Why a file was not read whole.
-enum ReadErr {
+/// Why a file was not read whole.
+#[derive(Clone, Copy, Debug, PartialEq, Eq)]
+pub enum ReadErr {
     TooLong,
     Failed,
     NoMemory,
@@ -33,16 +39,36 @@ enum ReadErr {
 /// How many bytes are read at once.
 const PIECE: usize = 65_536;
 
+// Reads a piece of what is left, and says how long it is: nothing only at the end. A call that was broken off is made
+// again.
+fn read_some<F: Read>(file: &mut F, piece: &mut [u8]) -> Result<usize, ReadErr>
+    requires { 0 < length piece.old }
+    ensures some { IfOk result (λ n. n ≤ length piece.new) }
+    ensures got { IfOk result (λ n. Consumes (F.remaining file.old) (F.remaining file.new) (take n piece.new)) }
+    ensures end { IfOk result (λ n. n ≡ 0 → IsAtEnd (F.remaining file.new)) }
+    ensures err { result ≡ Err cause.Failed → Keeps (F.remaining file.old) (F.remaining file.new) }
+    ensures failed { OnErr result (result ≡ Err cause.Failed) }
+{
+    for _ in 0..u64::MAX {
+        match file.read(piece) {
+            Ok(count) => return Ok(count),
+            Err(error) if is_interrupted(&error) => {}
+            Err(_) => return Err(ReadErr::Failed),
+        }
+    }
+    Err(ReadErr::Failed)
+}
+
 // All that a reader gives, of which there are at most `limit` bytes.
 fn read_whole<F: Read>(alloc: Global, file: &mut F, limit: u64) -> Result<Vec<u8>, ReadErr>
-    ensures { IfOk result (λ bytes. vec_len bytes ≤ limit) }
+    ensures within { IfOk result (λ bytes. vec_len bytes ≤ limit) }
+    ensures whole { IfOk result (λ bytes. IfSome (F.remaining file.old) (λ xs. bytes.items ≡ xs)) }
+    ensures long { result ≡ Err cause.TooLong → IfSome (F.remaining file.old) (λ xs. limit < length xs) }
 {
     let mut bytes = Vec::new(alloc);
     let mut piece = [0u8; PIECE];
     for _ in 0..u64::MAX {
-        let Ok(count) = file.read(&mut piece) else {
-            return Err(ReadErr::Failed);
-        };
+        let count = read_some(file, &mut piece)?;
         if count == 0 {
             return Ok(bytes);
         }
@@ -56,26 +82,59 @@ fn read_whole<F: Read>(alloc: Global, file: &mut F, limit: u64) -> Result<Vec<u8
     Err(ReadErr::Failed)
 }
 
+// What a shelf answers where a file was not read whole.
+fn read_answer(error: ReadErr) -> ShelfErr
+    ensures { result ≡ answer_of error }
+{
+    match error {
+        ReadErr::TooLong => ShelfErr::TooLong,
+        ReadErr::Failed => ShelfErr::Failed,
+        ReadErr::NoMemory => ShelfErr::NoMemory,
+    }
+}
+
+// What a shelf answers where a file was not opened.
+fn open_answer(error: &io::Error) -> ShelfErr
+    ensures { result ≡ opening_answer (error_kind error.now) }
+{
+    match error.kind() {
+        ErrorKind::OutOfMemory => ShelfErr::NoMemory,
+        _ => ShelfErr::Missing,
+    }
+}
+
+// Opens a file and reads it whole.
+fn fetched<R: Files>(
+    rt: &R,
+    alloc: Global,
+    name: &[u8],
+    limit: u64,
+) -> Result<Vec<u8>, ShelfErr>
+    ensures { IfOk result (λ bytes. vec_len bytes ≤ limit) }
+{
+    let Ok(path) = str::from_utf8(name) else {
+        return Err(ShelfErr::Missing);
+    };
+    let mut file = match File::open(rt, path) {
+        Ok(file) => file,
+        Err(error) => return Err(open_answer(&error)),
+    };
+    match read_whole(alloc, &mut file, limit) {
+        Ok(bytes) => Ok(bytes),
+        Err(error) => Err(read_answer(error)),
+    }
+}
+
 impl<R: Files> Shelf for FolderShelf<'_, R> {
     ghost files = { λ _. None };
 
     ghost faults = { λ s. s.faults };
 
     fn fetch(&mut self, alloc: Global, name: &[u8], limit: u64) -> Result<Vec<u8>, ShelfErr> {
-        let Ok(path) = str::from_utf8(name) else {
-            return Err(ShelfErr::Missing);
-        };
-        let Ok(mut file) = File::open(self.rt, path) else {
-            return Err(ShelfErr::Missing);
-        };
-        match read_whole(alloc, &mut file, limit) {
-            Ok(bytes) => Ok(bytes),
-            Err(ReadErr::TooLong) => Err(ShelfErr::TooLong),
-            Err(ReadErr::NoMemory) => Err(ShelfErr::NoMemory),
-            Err(ReadErr::Failed) => {
-                self.faults = self.faults.saturating_add(1);
-                Err(ShelfErr::Failed)
-            }
+        let answer = fetched(self.rt, alloc, name, limit);
+        if let Err(ShelfErr::Failed) = &answer {
+            self.faults = self.faults.saturating_add(1);
         }
+        answer
     }
 }

@@ -1,22 +1,52 @@
-ghost use Rattle.std.specs.Prelude.{◌≡◌, None};
+ghost use Rattle.std.specs.Prelude.{◌≡◌, ◌<◌, ◌≤◌, None, OnOk, OnErr, IfOk, length, take};
+ghost use Rattle.std.specs.Io.KnownBytes.{Appends, Keeps};
 
+use crate::page_file::is_interrupted;
 use std::io::Write;
+use std::os::fd::AsFd;
 use xp_outside::{Sink, SinkFailed};
 
-/// A writer of the system. It doesn't tell what was written. A write that takes no byte is a fault.
+/// A writer of the system, or none where it was closed before the program began: then each write fails. It doesn't tell
+/// what was written.
 #[derive(Drop)]
 pub struct StdSink<W: Write + Drop> {
-    writer: W,
+    writer: Option<W>,
     faults: u64,
 }
 
 impl<W: Write + Drop> StdSink<W> {
     /// A sink over the writer, without a fault yet.
-    pub fn new(writer: W) -> StdSink<W>
-        ensures { result.faults ≡ 0 }
+    pub fn new(writer: Option<W>) -> StdSink<W>
+        ensures { (result.writer ≡ writer) × (result.faults ≡ 0) }
     {
         StdSink { writer, faults: 0 }
     }
+}
+
+/// The stream, if it is open. It is asked before any file is opened, so that no file gets the number of a closed one.
+pub fn if_open<T: AsFd + Drop>(stream: T) -> Option<T> {
+    match stream.as_fd().try_clone_to_owned() {
+        Ok(_same) => Some(stream),
+        Err(_) => None,
+    }
+}
+
+// Writes a front of the piece, at least a byte, and says how long it is. A call that was broken off is made again, and a
+// write that takes no byte has failed.
+fn write_some<W: Write>(writer: &mut W, piece: &[u8]) -> Result<usize, SinkFailed>
+    ensures some { IfOk result (λ n. (0 < n) × (n ≤ length piece.now)) }
+    ensures taken { IfOk result (λ n. Appends (W.contents writer.old) (W.contents writer.new) (take n piece.now)) }
+    ensures err { OnErr result (Keeps (W.contents writer.old) (W.contents writer.new)) }
+{
+    for _ in 0..u64::MAX {
+        match writer.write(piece) {
+            Ok(0) => return Err(SinkFailed),
+            Ok(taken) => return Ok(taken),
+            Err(error) if is_interrupted(&error) => {}
+            Err(_) => return Err(SinkFailed),
+        }
+    }
+    Err(SinkFailed)
 }
 
 impl<W: Write + Drop> Sink for StdSink<W> {
@@ -25,12 +55,13 @@ impl<W: Write + Drop> Sink for StdSink<W> {
     ghost faults = { λ s. s.faults };
 
     fn write(&mut self, piece: &[u8]) -> Result<usize, SinkFailed> {
-        match self.writer.write(piece) {
-            Ok(taken) if taken > 0 => Ok(taken),
-            _ => {
-                self.faults = self.faults.saturating_add(1);
-                Err(SinkFailed)
-            }
+        let written = match &mut self.writer {
+            Some(writer) => write_some(writer, piece),
+            None => Err(SinkFailed),
+        };
+        if written.is_err() {
+            self.faults = self.faults.saturating_add(1);
         }
+        written
     }
 }

@@ -1,0 +1,58 @@
+ghost use Rattle.std.specs.Prelude.{◌≡◌};
+
+use crate::folder::FolderShelf;
+use crate::scratch::FileRack;
+use crate::terminal::StdSink;
+use std::alloc::Global;
+use std::env::{self, Env};
+use std::fs::OpenFile;
+use std::io::{ErrorKind, Write};
+use std::os::unix::fs::FileExt;
+use std::rt::Files;
+use xprs_top::{Status, answer_alone, pour_fault};
+
+/// The arguments without the program's name, and none where one of them isn't UTF-8. An error is want of memory.
+pub fn words(rt: &(impl Env + AllocGlobal)) -> Result<Vec<String>, Status> {
+    let mut words = Vec::new(rt.alloc());
+    let args = match env::args(rt) {
+        Ok(args) => args,
+        Err(error) if error.kind() == ErrorKind::OutOfMemory => return Err(Status::NoMemory),
+        Err(_) => return Ok(words),
+    };
+    for word in args.skip(1) {
+        words.push(word)?;
+    }
+    Ok(words)
+}
+
+/// Runs the words over the files of the current folder, and gives the number with which the program ends.
+pub fn program<R: Files + AllocGlobal, O: Write + Drop, E: Write + Drop>(
+    rt: &R,
+    words: Result<Vec<String>, Status>,
+    out: Option<O>,
+    err: Option<E>,
+) -> u8
+where
+    R::File: FileExt + OpenFile + Drop,
+{
+    let mut out = StdSink::new(out);
+    let mut err = StdSink::new(err);
+    let words = match words {
+        Ok(words) => words,
+        Err(status) => {
+            let _ = pour_fault(&mut err, &status);
+            return status.number();
+        }
+    };
+    let mut shelf = FolderShelf::new(rt);
+    let mut rack = FileRack::new(rt);
+    let outcome = answer_alone(
+        rt.alloc(),
+        words.as_slice(),
+        &mut shelf,
+        &mut rack,
+        &mut out,
+        &mut err,
+    );
+    outcome.status.number()
+}
