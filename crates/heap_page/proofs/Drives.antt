@@ -1,6 +1,6 @@
 -- Drives that are written to.
 use Rattle.std.proofs.Common.{◌≡◌, ℕ, ◌*◌, ◌/◌, ◌<◌, ◌≤◌, List, length, Option, Some, None, refl, sym, ap, subst, ◌∙◌, arith}
-use Rattle.std.specs.Prelude.{IfErr, Result, Ok, Err}
+use Rattle.std.specs.Prelude.{IfErr, Result, Ok, Err, slice_get}
 use Rattle.std.proofs.lemmas.Nat.{div-add-mod'}
 use Rattle.xp_outside.specs.Outside.{Rose}
 use Rattle.xp_outside.specs.declared.drive.Drive.{Ghosts}
@@ -8,7 +8,7 @@ use Rattle.heap_page.specs.declared.map.FileMap.{FileMap}
 use Rattle.heap_page.specs.declared.errors.StoreErr.{StoreErr}
 use Rattle.heap_page.specs.declared.errors.StoreErr.TheVariants.{DriveFault, DriveFull, NoMemory}
 use Rattle.heap_page.specs.Maps.{drive_of, address_of, base}
-use Rattle.heap_page.specs.Stores.{TellsAt, KeepsBut, IsWritten, AreWritten, IsFault, IsFull, HaveRoom, StoreCause}
+use Rattle.heap_page.specs.Stores.{TellsAt, KeepsBut, IsWritten, AreQuiet, AreRead, AreWritten, IsFault, IsFull, HaveRoom, StoreCause}
 use Rattle.heap_page.proofs.Found.{get_below, one_at, there}
 
 pub rose_earlier : (a b c : ℕ) → a ≤ b → Rose b c → Rose a c
@@ -68,6 +68,54 @@ module _ {D : Type 0} (g : Ghosts D) where
         let e : a ≡ b = one_at us d a b at_a at_b in
         subst (λ (x : D). IsWritten g (P d) a x) e (record { size = refl; count = omega arith; others = keeps_none (g.pages a) (P d) });
   }
+
+  pub quiet_none : (fault : Option ℕ) (us : List D) → AreQuiet g fault us us
+  quiet_none fault us = record {
+    each = λ d a b other at_a at_b. let e : a ≡ b = one_at us d a b at_a at_b in rw e refl;
+  }
+
+  pub quiet_trans : (fault : Option ℕ) (us bs cs : List D) → length bs ≡ length us → AreQuiet g None us bs → AreQuiet g fault bs cs → AreQuiet g fault us cs
+  quiet_trans fault us bs cs len h k = record {
+    each = λ d a c other at_a at_c.
+        let b = there bs d (omega (arith, get_below us d a at_a, len)) in
+        k.each d b.0 c other b.1 at_c ∙ h.each d a b.0 (λ e. absurd cc) at_a b.1;
+  }
+
+  -- reads that change nothing compose
+  pub read_none : (us : List D) → AreRead g us us
+  read_none us = record {
+    len = refl;
+    each = λ d a b at_a at_b.
+        let e : a ≡ b = one_at us d a b at_a at_b in
+        rw e (record { size = refl; count = omega arith; told = refl });
+  }
+
+  pub read_trans : (us bs cs : List D) → AreRead g us bs → AreRead g bs cs → AreRead g us cs
+  read_trans us bs cs h k = record {
+    len = k.len ∙ h.len;
+    each = λ d a c at_a at_c.
+        let b = there bs d (omega (arith, get_below us d a at_a, h.len)) in
+        let one = h.each d a b.0 at_a b.1 in
+        let two = k.each d b.0 c b.1 at_c in
+        record { size = two.size ∙ one.size; count = omega (arith, one.count, two.count); told = two.told ∙ one.told };
+  }
+
+  -- they keep the room, and what is told at each place
+  pub room_read : (map_of : FileMap) (us bs : List D) → AreRead g us bs → HaveRoom g map_of us → HaveRoom g map_of bs
+  room_read map_of us bs h room = λ d b at_b.
+      let a = there us d (omega (arith, get_below bs d b at_b, h.len)) in
+      omega (arith, (h.each d a.0 b a.1 at_b).size, room d a.0 a.1)
+
+  pub told_read : (P : ℕ → Option (List (List ℕ)) → Type 0) (us bs : List D) → AreRead g us bs →
+      ((d : ℕ) (drive : D) → slice_get us d ≡ Some drive → P d (g.pages drive)) → (d : ℕ) (drive : D) → slice_get bs d ≡ Some drive → P d (g.pages drive)
+  told_read P us bs h all d b at_b =
+      let a = there us d (omega (arith, get_below bs d b at_b, h.len)) in
+      subst (P d) (sym (h.each d a.0 b a.1 at_b).told) (all d a.0 a.1)
+
+  pub fault_earlier : (us bs cs : List D) (d : ℕ) → AreRead g us bs → IsFault g d bs cs → IsFault g d us cs
+  fault_earlier us bs cs d h f =
+      let a = there us d (omega (arith, get_below bs d f.old f.was, h.len)) in
+      record { old = a.0; new = f.new; was = a.1; is = f.is; rose = rose_earlier _ _ _ (h.each d a.0 f.old a.1 f.was).count f.rose }
 
   pub room_kept : (map : FileMap) (P : ℕ → ℕ → Type 0) (us bs : List D) → AreWritten g P us bs → HaveRoom g map us → HaveRoom g map bs
   room_kept map P us bs h room = λ d b at_b.

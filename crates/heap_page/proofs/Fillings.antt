@@ -1,5 +1,5 @@
 -- Filling pages one after the other.
-use Rattle.std.proofs.Common.{◌≡◌, ℕ, zero, suc, ◌+◌, ◌*◌, ◌<◌, ◌≤◌, List, [], ◌∷◌, ◌++◌, length, get_or, drop, ◌^◌, Some, refl, sym, ap, subst, ◌∙◌, arith, inl, inr}
+use Rattle.std.proofs.Common.{◌≡◌, ℕ, zero, suc, ◌+◌, ◌*◌, ◌<◌, ◌≤◌, List, [], ◌∷◌, ◌++◌, length, get_or, drop, ◌^◌, None, Some, refl, sym, ap, subst, ◌∙◌, arith, inl, inr}
 use Rattle.std.specs.Prelude.{slice_get, ◌⊎◌}
 use Rattle.std.proofs.lemmas.Bool.{cases_lt}
 use Rattle.std.proofs.lemmas.List.{length-drop, drop_all}
@@ -13,10 +13,10 @@ use Rattle.heap_page.proofs.Written.{page_again}
 use Rattle.heap_page.proofs.Striping.{file_pages}
 use Rattle.heap_page.specs.Blocks.{weight_of, item_weight, laid}
 use Rattle.heap_page.specs.Maps.{drive_of, address_of, IsMap, IsPlace, HasPage, HasPages}
-use Rattle.heap_page.specs.Stores.{TellsAt, AreWritten, Stand, HaveRoom}
+use Rattle.heap_page.specs.Stores.{TellsAt, AreQuiet, AreWritten, Stand, HaveRoom}
 use Rattle.heap_page.proofs.Cut.{begins, laid_more, laid_next, laid_end}
 use Rattle.heap_page.proofs.Counted.{items_here}
-use Rattle.heap_page.proofs.Drives.{apart, room_kept, tells_kept, wrote_none, wrote_trans}
+use Rattle.heap_page.proofs.Drives.{apart, quiet_none, quiet_trans, room_kept, tells_kept, wrote_none, wrote_trans}
 use Rattle.heap_page.proofs.Found.{get_below, there}
 
 weight_is : (items : List (List ℕ)) → weight_of item_weight items ≡ 4 * length items + total items
@@ -68,6 +68,7 @@ module _ {D : Type 0} (g : Ghosts D) where
     pub page_is : page ≡ page_of file number part
     pub fits_page : Fits part
     pub wrote : AreWritten g (IsPlace map file) olds news
+    pub quiet : AreQuiet g None olds news
     pub stands : Stands map file number (λ p. page_of file p (get_or blocks p [])) news
     pub room : HaveRoom g map news
     pub len : length news ≡ map.drives
@@ -84,6 +85,7 @@ module _ {D : Type 0} (g : Ghosts D) where
       page_is = e;
       fits_page = omega arith;
       wrote = wrote_none g (IsPlace map file) olds;
+      quiet = quiet_none g None olds;
       stands = λ p c lt at_c. absurd (omega arith);
       room = room;
       len = len;
@@ -119,7 +121,7 @@ module _ {D : Type 0} (g : Ghosts D) where
     pushed_in number page x page2 rest news s h =
         let ns = number_small number (number_below number page (x ∷ rest) news s) in
         let p = pushes_on file number s.part page x page2 Pushed small_file ns s.fits_page s.page_is h in
-        record { part = s.part ++ x ∷ []; left = s.left ∙ laid_more item_weight 8172 s.part x rest (omega (arith, p.0, weight_is (s.part ++ x ∷ []))); page_is = p.1; fits_page = p.0; wrote = s.wrote; stands = s.stands; room = s.room; len = s.len }
+        record { part = s.part ++ x ∷ []; left = s.left ∙ laid_more item_weight 8172 s.part x rest (omega (arith, p.0, weight_is (s.part ++ x ∷ []))); page_is = p.1; fits_page = p.0; wrote = s.wrote; quiet = s.quiet; stands = s.stands; room = s.room; len = s.len }
 
     is_place : (number d x : ℕ) → number < length blocks → (d ≡ drive_of map number) × (x ≡ address_of map file number) → IsPlace map file d x
     is_place number d x lt h = (number, in_file number lt, sym h.0, sym h.1)
@@ -144,8 +146,8 @@ module _ {D : Type 0} (g : Ghosts D) where
     pub turned : (number : ℕ) (page x page1 page2 : List ℕ) (rest : List (List ℕ)) (bs cs : List D) → Filling map file blocks olds number page (x ∷ rest) bs → Pushes NoRoom page x page1 → length x ≤ 8168 →
         AreWritten g (λ d a. (d ≡ drive_of map number) × (a ≡ address_of map file number)) bs cs →
         ((drive : D) → slice_get cs (drive_of map number) ≡ Some drive → TellsAt (g.pages drive) (address_of map file number) page1) →
-        page2 ≡ page_of file (number + 1) (x ∷ []) → Filling map file blocks olds (number + 1) page2 rest cs
-    turned number page x page1 page2 rest bs cs s h fit w t e =
+        AreQuiet g None bs cs → page2 ≡ page_of file (number + 1) (x ∷ []) → Filling map file blocks olds (number + 1) page2 rest cs
+    turned number page x page1 page2 rest bs cs s h fit w t q e =
         let ns = number_small number (number_below number page (x ∷ rest) bs s) in
         let p = pushes_on file number s.part page x page1 NoRoom small_file ns s.fits_page s.page_is h in
         let l : drop number blocks ≡ s.part ∷ laid item_weight 8172 (x ∷ []) rest = s.left ∙ laid_next item_weight 8172 s.part x rest (over (s.part ++ x ∷ []) p.0) in
@@ -156,6 +158,7 @@ module _ {D : Type 0} (g : Ghosts D) where
           page_is = e;
           fits_page = omega arith;
           wrote = both.0;
+          quiet = quiet_trans g None olds bs cs s.wrote.len s.quiet q;
           stands = both.1;
           room = room_kept g map (λ d a. (d ≡ drive_of map number) × (a ≡ address_of map file number)) bs cs w s.room;
           len = w.len ∙ s.len;

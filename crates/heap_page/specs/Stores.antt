@@ -1,6 +1,6 @@
 -- What stands on drives after the pages of a file were written, and when a file is not written.
-use Rattle.std.specs.Prelude.{◌≡◌, ℕ, ◌<◌, ◌≤◌, List, length, slice_get, Option, Some, None, ⊤}
-use Rattle.xp_outside.specs.Outside.{Rose}
+use Rattle.std.specs.Prelude.{◌≡◌, ◌≢◌, ℕ, ◌<◌, ◌≤◌, List, length, slice_get, Option, Some, None, Result, Ok, Err, ⊤}
+use Rattle.xp_outside.specs.Outside.{Rose, Stands}
 use Rattle.xp_outside.specs.declared.drive.Drive.{Ghosts}
 use Rattle.heap_page.specs.declared.map.FileMap.{FileMap}
 use Rattle.heap_page.specs.declared.errors.BadPage.{BadPage}
@@ -35,7 +35,24 @@ abbrev pub HasBadHead : Option (List (List ℕ)) → ℕ → ℕ → BadPage →
 HasBadHead None address file bad = ⊤
 HasBadHead (Some pages) address file bad = (page : List ℕ) × (slice_get pages address ≡ Some page) × (head_fault Heap file bad.page page ≡ Some bad.rule)
 
+-- the drive that has failed, by the answer
+abbrev pub store_fault : {T : Type 0} → Result T StoreErr → Option ℕ
+store_fault (Ok stored) = None
+store_fault (Err (DriveFault d)) = Some d
+store_fault (Err (DriveFull d needs capacity)) = None
+store_fault (Err NoMemory) = None
+
+abbrev pub fetch_fault : {T : Type 0} → Result T FetchErr → Option ℕ
+fetch_fault (Ok found) = None
+fetch_fault (Err (fetch.DriveFault d)) = Some d
+fetch_fault (Err (fetch.BadPage bad)) = None
+fetch_fault (Err fetch.NoMemory) = None
+
 module _ {D : Type 0} (g : Ghosts D) where
+  -- the count of each drive stands, but that of the one that has failed
+  pub record AreQuiet (fault : Option ℕ) (olds news : List D) : Type 0 where
+    pub each : (d : ℕ) (old new : D) → fault ≢ Some d → slice_get olds d ≡ Some old → slice_get news d ≡ Some new → Stands (g.faults old) (g.faults new)
+
   -- a drive after writes to these addresses at most
   pub record IsWritten (P : ℕ → Type 0) (old new : D) : Type 0 where
     pub size : g.size new ≡ g.size old

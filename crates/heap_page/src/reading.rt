@@ -5,7 +5,7 @@ ghost use Rattle.heap_page.specs.declared.errors.FetchErr.TheVariants as fetch;
 ghost use Rattle.heap_page.specs.declared.head.FileKind.TheVariants.{Heap};
 ghost use Rattle.heap_page.specs.Maps.{IsMap, HasPage, drive_of, address_of};
 ghost use Rattle.heap_page.specs.Pages.{head_fault};
-ghost use Rattle.heap_page.specs.Stores.{AreRead, IsBad, IsFault, ReadCause};
+ghost use Rattle.heap_page.specs.Stores.{AreQuiet, AreRead, IsBad, IsFault, ReadCause, fetch_fault};
 
 use crate::{BadPage, FetchErr, FileKind, FileMap, Page, check_head};
 use std::alloc::Global;
@@ -25,6 +25,7 @@ fn read_bytes<D: Drive>(
     requires room { (drive : _) → slice_get drives.old (drive_of map.now number) ≡ Some drive → address_of map.now file number < D.size drive }
     requires whole { length into.old ≡ 8192 }
     ensures read { AreRead D.Drive drives.old drives.new }
+    ensures quiet { MatchResult result (λ _. AreQuiet D.Drive None drives.old drives.new) (λ place. AreQuiet D.Drive (Some place) drives.old drives.new) }
     ensures told { OnOk result ((drive : _) → slice_get drives.old (drive_of map.now number) ≡ Some drive → ReadsPage (D.pages drive) (address_of map.now file number) into.new) }
     ensures err { IfErr result (λ place. (place ≡ drive_of map.now number) × IsFault D.Drive place drives.old drives.new) }
 {
@@ -49,6 +50,7 @@ fn read_vec<D: Drive>(
     requires page { HasPage map.now.files.items file page }
     requires room { (drive : _) → slice_get drives.old (drive_of map.now page) ≡ Some drive → address_of map.now file page < D.size drive }
     ensures read { AreRead D.Drive drives.old drives.new }
+    ensures quiet { AreQuiet D.Drive (fetch_fault result) drives.old drives.new }
     ensures told { (drive : _) → slice_get drives.old (drive_of map.now page) ≡ Some drive → IfOk result (λ found. ReadsPage (D.pages drive) (address_of map.now file page) found.items) }
     ensures whole { IfOk result (λ found. length found.items ≡ 8192) }
     ensures err { IfErr result (ReadCause D.Drive map.now file page drives.old drives.new) }
@@ -72,7 +74,7 @@ fn accept(bytes: Vec<u8>, file: u32, page: u32) -> Result<Page, FetchErr>
 }
 
 /// Reads a page of a table. An `Ok` has a head that breaks no rule and is the page at its address, where the drive
-/// tells. `DriveFault` comes only where the count of that drive rises. `BadPage` comes exactly where the head of what was
+/// tells. `DriveFault` comes only where the count of that drive rises, and no other count does. `BadPage` comes exactly where the head of what was
 /// read breaks a rule, with the first one. Each drive keeps its number of pages and all that it tells.
 pub fn read_relation_page<D: Drive>(
     alloc: Global,
@@ -86,6 +88,7 @@ pub fn read_relation_page<D: Drive>(
     requires page { HasPage map.now.files.items file page }
     requires room { (drive : _) → slice_get drives.old (drive_of map.now page) ≡ Some drive → address_of map.now file page < D.size drive }
     ensures read { AreRead D.Drive drives.old drives.new }
+    ensures quiet { AreQuiet D.Drive (fetch_fault result) drives.old drives.new }
     ensures told { (drive : _) → slice_get drives.old (drive_of map.now page) ≡ Some drive → IfOk result (λ found. ReadsPage (D.pages drive) (address_of map.now file page) found) }
     ensures head { IfOk result (λ found. head_fault Heap file page found ≡ None) }
     ensures err { IfErr result (ReadCause D.Drive map.now file page drives.old drives.new) }

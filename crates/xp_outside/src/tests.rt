@@ -36,29 +36,42 @@ fn drives_in_memory_fail_where_they_are_told(rt: HostRuntime) -> Result<(), Fail
     let mut rack = MemRack::new(2, first, second, Sequence::new(alloc));
     assert!(rt; matches!(rack.mount(alloc, 2), Err(RackErr::Failed)));
     assert_eq!(rt; rack.faults(), 1);
-    let Ok(mut drives) = rack.mount(alloc, 2) else {
-        return Ok(());
-    };
+    let mounted = rack.mount(alloc, 2);
+    assert!(rt; mounted.is_ok());
     let mut page = [1u8; PAGE];
-    for drive in drives.iter_mut() {
-        assert_eq!(rt; drive.capacity(), 2);
-        if drive.capacity() == 2 {
-            assert!(rt; drive.write(1, &page).is_ok());
-            assert!(rt; drive.read(0, &mut page).is_ok());
-            assert!(rt; page == [0; PAGE]);
-            let again = drive.read(1, &mut page).is_ok();
-            assert_eq!(rt; again, drive.faults() == 0);
+    let mut answers = Vec::new(alloc);
+    if let Ok(mut drives) = mounted {
+        for drive in drives.iter_mut() {
+            assert_eq!(rt; drive.capacity(), 2);
+            if drive.capacity() == 2 {
+                answers.push(drive.write(1, &page).is_ok())?;
+                answers.push(drive.read(0, &mut page).is_ok() && page == [0; PAGE])?;
+                answers.push(drive.read(1, &mut page).is_ok())?;
+                answers.push(drive.faults() == 0)?;
+            }
             page = [1; PAGE];
         }
     }
+    let wanted = [true, true, false, false, true, true, true, true];
+    assert_eq!(rt; answers.as_slice(), wanted.as_slice());
+    Ok(())
+}
+
+#[test]
+fn a_wild_drive_changes_what_it_reads(rt: HostRuntime) -> Result<(), Fail> {
+    let alloc = rt.alloc();
+    let mut page = [1u8; PAGE];
+    let mut answers = Vec::new(alloc);
     if let Ok(mut wild) = WildRack::new(1, 5, 3).mount(alloc, 1) {
         for drive in wild.iter_mut() {
             if drive.capacity() == 1 {
-                assert!(rt; drive.read(0, &mut page).is_ok());
-                assert_eq!(rt; page[5], 3);
+                answers.push(drive.read(0, &mut page).is_ok())?;
             }
         }
     }
+    assert_eq!(rt; answers.as_slice(), [true].as_slice());
+    assert_eq!(rt; page[4], 0);
+    assert_eq!(rt; page[5], 3);
     let single = MemDrive::new(alloc, 1, Sequence::new(alloc), Sequence::new(alloc))?;
     assert_eq!(rt; single.faults(), 0);
     Ok(())

@@ -1,6 +1,6 @@
-ghost use Rattle.std.specs.Prelude.{◌<◌, ◌≡◌, IfOk, None, All, length};
+ghost use Rattle.std.specs.Prelude.{◌<◌, ◌≡◌, ◌≢◌, Err, IfOk, None, All, length};
 ghost use Rattle.xp_outside.specs.Drives.{IsFresh};
-ghost use Rattle.xp_outside.specs.Memory.{drive_faults, drive_size};
+ghost use Rattle.xp_outside.specs.Memory.{drive_faults, drive_size, IsMade};
 
 use crate::{Drive, DriveFailed, MemDrive, NoMemory, Rack, RackErr};
 use lists::Sequence;
@@ -56,7 +56,8 @@ impl WildRack {
     }
 
     fn drive(&self, alloc: Global) -> Result<WildDrive, NoMemory>
-        ensures { IfOk result (λ d. IsFresh None (drive_faults d.drive) (drive_size d.drive)) }
+        ensures fresh { IfOk result (λ d. IsFresh None (drive_faults d.drive) (drive_size d.drive)) }
+        ensures made { IfOk result (IsMade self.now) }
     {
         let drive = MemDrive::new(
             alloc,
@@ -74,6 +75,7 @@ impl WildRack {
     fn drives(&self, alloc: Global, count: u32) -> Result<Vec<WildDrive>, NoMemory>
         ensures number { IfOk result (λ drives. length drives.items ≡ count) }
         ensures fresh { IfOk result (λ drives. All (λ d. IsFresh None (drive_faults d.drive) (drive_size d.drive)) drives.items) }
+        ensures made { IfOk result (λ drives. All (IsMade self.now) drives.items) }
     {
         let mut drives = Vec::new(alloc);
         for _number in 0..count {
@@ -88,7 +90,14 @@ impl Rack for WildRack {
 
     ghost faults = { λ _. 0 };
 
-    fn mount(&mut self, alloc: Global, count: u32) -> Result<Vec<WildDrive>, RackErr> {
+    /// Each drive has `pages` pages, and its reads change `byte` by `mask`.
+    fn mount(&mut self, alloc: Global, count: u32) -> Result<Vec<WildDrive>, RackErr>
+        ensures number { IfOk result (λ drives. length drives.items ≡ count) }
+        ensures fresh { IfOk result (λ drives. All (λ d. IsFresh None (drive_faults d.drive) (drive_size d.drive)) drives.items) }
+        ensures made { IfOk result (λ drives. All (IsMade self.old) drives.items) }
+        ensures never { result ≢ Err RackErr.Failed }
+        ensures same { self.new ≡ self.old }
+    {
         match self.drives(alloc, count) {
             Ok(drives) => Ok(drives),
             Err(_) => Err(RackErr::NoMemory),
