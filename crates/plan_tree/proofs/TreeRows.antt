@@ -10,7 +10,7 @@ use Rattle.rows.specs.declared.value.Value.{Value}
 use Rattle.rows.specs.Values.{column_of}
 use Rattle.rel_meaning.specs.Expression.{Expression}
 use Rattle.rows.specs.declared.plain.LayoutColumn.{LayoutColumn}
-use Rattle.rel_meaning.specs.Layouts.{FitsColumns}
+use Rattle.rows.specs.Layouts.{FitsColumns}
 use Rattle.rel_meaning.specs.Meaning.{is_true}
 use Rattle.rows.specs.declared.plain.KeyPair.{KeyPair}
 use Rattle.plan_tree.specs.declared.tree.Way.{Way}

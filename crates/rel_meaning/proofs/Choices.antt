@@ -14,7 +14,7 @@ use Rattle.rel_meaning.specs.Expression.{Question}
 use Rattle.rel_meaning.specs.declared.query.Table.{Table}
 use Rattle.rows.specs.declared.plain.LayoutColumn.{LayoutColumn}
 use Rattle.rows.specs.declared.plain.LayoutPart.{LayoutPart}
-use Rattle.rel_meaning.specs.Layouts.{column_place, column_in, value_at, FitsColumns, IsRowIn, all_columns}
+use Rattle.rows.specs.Layouts.{column_place, column_in, value_at, FitsColumns, IsRowIn, all_columns}
 use Rattle.rel_meaning.specs.Meaning.{rows_at, rows_of, columns_at, columns_of, layout_from, layout_of, combos, value_in, passes, project, IsTable}
 use Rattle.rel_meaning.specs.Joined.{joined, answers}
 use Rattle.rel_meaning.proofs.Typed.{fits_length}

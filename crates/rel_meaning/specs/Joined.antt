@@ -8,7 +8,7 @@ use Rattle.rel_meaning.specs.declared.answer.Choice.{Choice}
 use Rattle.rel_meaning.specs.declared.answer.Choice.TheVariants.{One, Several}
 use Rattle.rel_meaning.specs.declared.query.Table.{Table}
 use Rattle.rows.specs.declared.plain.LayoutPart.{LayoutPart}
-use Rattle.rel_meaning.specs.Layouts.{column_in}
+use Rattle.rows.specs.Layouts.{column_in}
 use Rattle.rel_meaning.specs.Meaning.{rows_of, passes, project}
 
 -- the choices of rows for the variables, each behind a front

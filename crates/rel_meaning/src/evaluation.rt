@@ -1,7 +1,7 @@
 ghost use Rattle.std.specs.Prelude.{◌≡◌, IfOk, IsSome};
 ghost use Rattle.rel_meaning.specs.Eval.{eval, negate_value, arith_values, not_value, and_values, or_values};
 ghost use Rattle.rel_meaning.specs.Expression.{expression_of};
-ghost use Rattle.rel_meaning.specs.Layouts.{column_in, column_type, IsRowIn};
+ghost use Rattle.rows.specs.Layouts.{column_in, column_type, IsRowIn};
 ghost use Rattle.rel_meaning.specs.Typing.{type_of, CanNegate, CanCompute};
 
 use crate::expr::compared;

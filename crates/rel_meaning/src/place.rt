@@ -1,5 +1,5 @@
 ghost use Rattle.std.specs.Prelude.{◌≡◌, ◌<◌, ◌^◌, length, IfSome};
-ghost use Rattle.rel_meaning.specs.Layouts.{column_place, all_columns};
+ghost use Rattle.rows.specs.Layouts.{column_place, all_columns};
 
 use rows::LayoutPart;
 
