@@ -20,7 +20,7 @@ pub use plain::{
     KeyEntry, KeyEntryList, KeyIndex, KeyIndexList, KeyPair, KeyPairList, Layout, LayoutColumn,
     LayoutColumnList, LayoutPart, Machine, Relation, Step, StepList,
 };
-pub use row_view::{RowView, ValueView, decode_row, typed_front};
+pub use row_view::{RowReader, RowView, ValueView, decode_row, typed_front};
 pub use text::Text;
 pub use value::Value;
 

@@ -1,6 +1,6 @@
 use crate::{
-    ColType, Column, FieldErr, Row, RowView, SortKey, Text, Value, arrange_rows, compare,
-    decode_row, encode_row, field_text, read_field, row_order, row_size,
+    ColType, Column, FieldErr, Row, RowReader, RowView, SortKey, Text, Value, arrange_rows,
+    compare, decode_row, encode_row, field_text, read_field, row_order, row_size,
 };
 use lists::{Duplicate, Sequence};
 use std::alloc::{AllocError, Global};
@@ -106,6 +106,7 @@ fn rows_are_read_from_their_bytes_and_written_again(rt: HostRuntime) -> Result<(
         let Some(view) = RowView::read(bytes, &columns) else {
             return Err(Fail::from(AllocError));
         };
+        assert!(rt; RowReader::of(&columns).read(bytes).is_some());
         let seen = view.field(1).to_value(alloc)?;
         assert_eq!(rt; compare(&seen, &row.items()[1]), Ordering::Equal);
         assert_eq!(rt; row_order(&view.to_row(alloc)?, &row, &[]), Ordering::Equal);
