@@ -6,7 +6,7 @@ use Rattle.rows.specs.declared.plain.KeyPair.{KeyPair}
 use Rattle.rows.specs.declared.plain.LayoutColumn.{LayoutColumn}
 use Rattle.rows.specs.declared.plain.LayoutPart.{LayoutPart}
 use Rattle.rel_meaning.specs.Expression.{Expression}
-use Rattle.rows.specs.Layouts.{column_in}
+use Rattle.rows.specs.Layouts.{column_in, one_part}
 use Rattle.plan_tree.specs.declared.tree.Way.{Way}
 use Rattle.plan_tree.specs.Conjuncts.{all_met}
 use Rattle.rows.specs.Keys.{keys_match}
@@ -20,10 +20,6 @@ kept layout tests rows = filter (λ row. all_met tests (column_in layout row)) r
 -- each probing row, of the second layout, with each of the built rows that have its keys, in the order of the built rows
 abbrev pub probed : List LayoutPart → List LayoutPart → List LayoutPart → List KeyPair → List (List Value) → List (List Value) → List (List Value)
 probed layout first second keys built rows = flat_map (λ row. map (λ b. combined layout first second b row) (filter (λ b. keys_match first second keys b row) built)) rows
-
--- the part of a layout that a scan makes
-abbrev pub one_part : ℕ → List LayoutColumn → List LayoutPart
-one_part v columns = record { var = v; columns = columns } ∷ []
 
 -- the layout of a tree's rows, where the variables have these columns
 abbrev pub layout_of_tree : (ℕ → List LayoutColumn) → Shape → List LayoutPart

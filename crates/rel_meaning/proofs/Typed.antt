@@ -1,5 +1,5 @@
 -- A well typed expression has a value of its type.
-use Rattle.std.proofs.Common.{◌≡◌, ℕ, ◌+◌, ◌-◌, ◌*◌, ◌<◌, ◌≤◌, suc, zero, ℤ, nat_abs, Bool, true, false, cond, List, [], ◌∷◌, length, Option, Some, None, refl, sym, ap, ◌∙◌, subst, arith, rules, IsSome, is_some, ◌&&◌, mul-le-mul, nat_le, slice_get}
+use Rattle.std.proofs.Common.{◌≡◌, ℕ, ◌≤◌, suc, zero, ℤ, nat_abs, Bool, true, false, cond, List, [], ◌∷◌, length, Option, Some, None, refl, sym, ap, subst, arith, IsSome, is_some, ◌&&◌, mul-le-mul, nat_le, slice_get}
 use Rattle.std.specs.Prelude.{⊤}
 use Rattle.std.specs.Option.{option_and_then}
 use Rattle.rows.specs.declared.value.Value.{Value}

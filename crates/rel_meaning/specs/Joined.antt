@@ -1,5 +1,5 @@
 -- A query's rows as the code finds them: each choice as one row, and values by the layout.
-use Rattle.std.specs.Prelude.{◌≡◌, Bool, List, [], ◌∷◌, ◌++◌, Option, Some, None, map, filter}
+use Rattle.std.specs.Prelude.{List, [], ◌∷◌, ◌++◌, map, filter}
 use Rattle.std.specs.List.{flat_map}
 use Rattle.rows.specs.declared.value.Value.{Value}
 use Rattle.rel_meaning.specs.declared.query.Var.{Var}

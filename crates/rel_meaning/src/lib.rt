@@ -5,10 +5,14 @@
 mod answer;
 mod evaluation;
 mod expr;
+mod meeting;
 mod place;
 mod query;
+mod view;
 
 pub use answer::{answer_plain, column_layout};
 pub use evaluation::evaluate;
 pub use expr::{ArithOp, CompareOp, Expr};
+pub use meeting::meets_view;
 pub use query::{Database, Query, Table, Target, TargetList, Var, VarList};
+pub use view::evaluate_view;

@@ -33,6 +33,10 @@ value_at row (Some place) = column_of row place
 abbrev pub column_in : List LayoutPart → List Value → ℕ → ℕ → Value
 column_in layout row var column = value_at row (column_place layout var column)
 
+-- the layout of one variable
+abbrev pub one_part : ℕ → List LayoutColumn → List LayoutPart
+one_part var columns = record { var = var; columns = columns } ∷ []
+
 -- null, or of the type and within the bound
 abbrev pub HasType : Value → LayoutColumn → Type 0
 HasType value.Null c = ⊤

@@ -3,6 +3,7 @@
 
 mod encoding;
 mod field;
+mod laws;
 mod order;
 mod plain;
 mod row_view;
@@ -13,6 +14,7 @@ mod value;
 
 pub use encoding::{encode_row, put_row, put_value, row_size, value_size};
 pub use field::{ColType, FieldErr, field_text, is_text, read_field};
+pub use laws::arranging_laws;
 pub use lists::Sequence;
 pub use order::{SortKey, SortKeyList, arrange_rows, compare, row_order};
 pub use plain::{
@@ -20,7 +22,7 @@ pub use plain::{
     KeyEntry, KeyEntryList, KeyIndex, KeyIndexList, KeyPair, KeyPairList, Layout, LayoutColumn,
     LayoutColumnList, LayoutPart, Machine, Relation, Step, StepList,
 };
-pub use row_view::{RowReader, RowView, ValueView, decode_row, typed_front};
+pub use row_view::{RowReader, RowView, ValueView, compare_views, decode_row, typed_front};
 pub use text::Text;
 pub use value::Value;
 

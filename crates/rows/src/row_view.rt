@@ -4,13 +4,14 @@ ghost use Rattle.std.specs.Option.{option_map};
 ghost use Rattle.rows.specs.RowBytes.{Decodes, IsRowOf};
 ghost use Rattle.rows.specs.RowFields.{behind, bits_behind, ends, integer_front, low_number, row_in, text_front, truth_front, typed_front, value_front, values_in};
 ghost use Rattle.rows.specs.RowSeen.{seen, seen_front, seen_rest};
-ghost use Rattle.rows.specs.Values.{column_of};
+ghost use Rattle.rows.specs.Values.{column_of, rank_of, value_cmp};
 
 use crate::encoding::bit_bytes;
 use crate::field::{MAX_TEXT, is_text};
 use crate::{ColType, Column, ColumnList, Row, Text, Value};
 use lists::Sequence;
 use std::alloc::{AllocError, Global};
+use std::cmp::Ordering;
 use std::marker::Model;
 
 /// A value of a row where its bytes lie.
@@ -33,6 +34,30 @@ impl<'a> ValueView<'a> {
             ValueView::Word(bytes) => Ok(Value::Word(Text::from_slice(alloc, bytes)?)),
             ValueView::Truth(truth) => Ok(Value::Truth(*truth)),
         }
+    }
+}
+
+// Null, then numbers, then words, then truth values.
+fn rank_of(value: ValueView<'_>) -> u32
+    ensures { result ≡ rank_of (seen value.entry) }
+{
+    match value {
+        ValueView::Null => 0,
+        ValueView::Number(_) => 1,
+        ValueView::Word(_) => 2,
+        ValueView::Truth(_) => 3,
+    }
+}
+
+/// The order of values, as `compare` has it.
+pub fn compare_views(a: ValueView<'_>, b: ValueView<'_>) -> Ordering
+    ensures { result ≡ value_cmp (seen a.entry) (seen b.entry) }
+{
+    match (a, b) {
+        (ValueView::Number(first), ValueView::Number(second)) => first.cmp(&second),
+        (ValueView::Word(first), ValueView::Word(second)) => first.cmp(second),
+        (ValueView::Truth(first), ValueView::Truth(second)) => first.cmp(&second),
+        _ => rank_of(a).cmp(&rank_of(b)),
     }
 }
 
