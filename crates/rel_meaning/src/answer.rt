@@ -70,8 +70,8 @@ fn with_choice<'a>(alloc: Global, front: &Row, row: &'a Row) -> Result<Choice<'a
     }
 }
 
-// The values of the targets.
-fn target_values(
+/// The values of the targets under a row of the layout.
+pub fn target_values(
     alloc: Global,
     targets: &[Target],
     row: &Row,

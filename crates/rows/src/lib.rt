@@ -5,6 +5,7 @@ mod encoding;
 mod field;
 mod laws;
 mod order;
+mod place;
 mod plain;
 mod row_view;
 #[cfg(test)]
@@ -17,6 +18,7 @@ pub use field::{ColType, FieldErr, field_text, is_text, read_field};
 pub use laws::arranging_laws;
 pub use lists::Sequence;
 pub use order::{SortKey, SortKeyList, arrange_rows, compare, row_order};
+pub use place::place_of;
 pub use plain::{
     Bound, BoundList, BoundOp, Catalog, Column, ColumnList, ColumnRef, ColumnRefList, Interval,
     KeyEntry, KeyEntryList, KeyIndex, KeyIndexList, KeyPair, KeyPairList, Layout, LayoutColumn,
