@@ -6,9 +6,8 @@ use Rattle.std.proofs.lemmas.List.Concat.{flat_map-append}
 use Rattle.std.proofs.lemmas.List.FromFn.{length-range_with_len, get_or-range_with_len, map-range_with_len_more}
 use Rattle.std.proofs.lemmas.List.Elements.{All-nil, All-head, All-tail, All-append, All-weaker, All-map, All-filter}
 use Rattle.rows.specs.declared.value.Value.{Value}
-use Rattle.rel_meaning.specs.Eval.{is_null}
-use Rattle.rel_meaning.specs.Layouts.{column_place, column_in, value_at}
-use Rattle.rows.specs.Values.{column_of}
+use Rattle.rows.specs.Layouts.{column_place, column_in, value_at}
+use Rattle.rows.specs.Values.{column_of, is_null}
 use Rattle.rows.specs.declared.plain.ColumnRef.{ColumnRef}
 use Rattle.rows.specs.declared.plain.LayoutPart.{LayoutPart}
 use Rattle.std.specs.Prelude.{Option, Some, None, IsSome}

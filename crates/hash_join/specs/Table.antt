@@ -7,9 +7,8 @@ use Rattle.std.specs.Cmp.Lexicographic.{slice_cmp}
 use Rattle.rows.specs.declared.value.Value.{Value}
 use Rattle.rows.specs.declared.plain.ColumnRef.{ColumnRef}
 use Rattle.rows.specs.declared.plain.LayoutPart.{LayoutPart}
-use Rattle.rows.specs.Values.{column_of, value_cmp}
-use Rattle.rel_meaning.specs.Eval.{is_null}
-use Rattle.rel_meaning.specs.Layouts.{column_place, column_in}
+use Rattle.rows.specs.Values.{column_of, value_cmp, is_null}
+use Rattle.rows.specs.Layouts.{column_place, column_in}
 use Rattle.hash_join.specs.declared.table.RowPlace.{RowPlace}
 
 -- a list of rows for each position, and the columns of the key by their places in a row

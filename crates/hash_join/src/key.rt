@@ -2,9 +2,8 @@
 ghost use Rattle.std.specs.Prelude.{◌≡◌, map, IfOk};
 ghost use Rattle.std.specs.List.{list_any};
 ghost use Rattle.std.specs.Cmp.Lexicographic.{slice_cmp};
-ghost use Rattle.rows.specs.Values.{value_cmp, column_of};
-ghost use Rattle.rel_meaning.specs.Eval.{is_null};
-ghost use Rattle.rel_meaning.specs.Layouts.{column_place};
+ghost use Rattle.rows.specs.Values.{value_cmp, column_of, is_null};
+ghost use Rattle.rows.specs.Layouts.{column_place};
 ghost use Rattle.hash_join.specs.Table.{key_of, places_of, row_at};
 
 use crate::RowPlace;

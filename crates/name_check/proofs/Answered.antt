@@ -12,7 +12,7 @@ use Rattle.rel_meaning.specs.declared.query.Query.{Query}
 use Rattle.rel_meaning.specs.Expression as ex
 use Rattle.rel_meaning.specs.Expression.{Expression, Question, question_of}
 use Rattle.rel_meaning.specs.Typing.{type_of, is_truth, negate_type, integer_bound, arith_type, compare_type, truth_type}
-use Rattle.rel_meaning.specs.Layouts as layouts
+use Rattle.rows.specs.Layouts as layouts
 use Rattle.rel_meaning.specs.Meaning as meaning
 use Rattle.rel_meaning.specs.Meaning.{IsResolved, layout_column}
 use Rattle.postquel_tokens.specs.declared.fault.TextErr.{TextErr}

@@ -3,7 +3,7 @@ use Rattle.std.proofs.Common.{◌≡◌, ◌<◌, ℕ, zero, suc, ◌+◌, ◌==
 use Rattle.std.specs.Option.{option_map, option_and_then}
 use Rattle.std.proofs.lemmas.Bool.Decides.{nat_tests}
 use Rattle.rel_meaning.specs.declared.query.Var.{Var}
-use Rattle.rel_meaning.specs.Layouts as layouts
+use Rattle.rows.specs.Layouts as layouts
 use Rattle.name_check.specs.declared.heading.Heading.{Heading}
 use Rattle.name_check.specs.declared.heading.HeadColumn.{HeadColumn}
 use Rattle.name_check.specs.Faults.{var_columns, column_type}

@@ -9,10 +9,9 @@ use Rattle.rows.specs.declared.value.Value.TheVariants.{Null}
 use Rattle.rows.specs.Values.{column_of}
 use Rattle.rows.specs.declared.plain.LayoutColumn.{LayoutColumn}
 use Rattle.rows.specs.declared.plain.LayoutPart.{LayoutPart}
-use Rattle.rel_meaning.specs.Layouts.{column_place, column_in, value_at, FitsColumns}
+use Rattle.rows.specs.Layouts.{column_place, column_in, value_at, FitsColumns, one_part}
 use Rattle.rel_meaning.proofs.Typed.{fits_length}
 use Rattle.plan_tree.specs.Assignments.{Assignment, blank, bind}
-use Rattle.plan_tree.specs.Rows.{one_part}
 use Rattle.plan_tree.specs.Combining.{AreApart, part_of, has_part, insert_part, merged, values_of, row_in, over, combined}
 
 abbrev pub value_when : Bool → Value → Value

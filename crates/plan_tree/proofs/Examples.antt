@@ -25,7 +25,7 @@ use Rattle.plan_tree.specs.declared.fragment.Source.TheVariants as source
 use Rattle.plan_tree.specs.Conjuncts.{conjuncts}
 use Rattle.plan_tree.specs.Trees.{Shape, scan, join, IsPlaced, HasMethods}
 use Rattle.plan_tree.specs.Combining.{merged}
-use Rattle.plan_tree.specs.Rows.{one_part}
+use Rattle.rows.specs.Layouts.{one_part}
 use Rattle.plan_tree.specs.Intervals.{interval_end, lower_end, rank_high, rank_low}
 use Rattle.plan_tree.specs.Pieces.{Piece, Ending, building, answering, folding, sorting}
 use Rattle.plan_tree.specs.Fragments.{Stored, values_of, value_at, rows_in}

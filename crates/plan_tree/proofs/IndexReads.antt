@@ -5,11 +5,11 @@ use Rattle.rows.specs.declared.value.Value.{Value}
 use Rattle.rows.specs.declared.value.Value.TheVariants as value
 use Rattle.rows.specs.declared.plain.Bound.{Bound}
 use Rattle.rows.specs.declared.plain.LayoutPart.{LayoutPart}
-use Rattle.rows.specs.Values.{row_cmp, value_cmp}
+use Rattle.rows.specs.Values.{row_cmp, value_cmp, is_null}
 use Rattle.rel_meaning.specs.Expression.{Expression}
 use Rattle.rel_meaning.specs.declared.expr.CompareOp.{CompareOp}
-use Rattle.rel_meaning.specs.Eval.{compare_values, holds, is_null}
-use Rattle.rel_meaning.specs.Layouts.{column_in}
+use Rattle.rel_meaning.specs.Eval.{compare_values, holds}
+use Rattle.rows.specs.Layouts.{column_in}
 use Rattle.rel_meaning.specs.Meaning.{is_true}
 use Rattle.plan_tree.specs.Conjuncts.{all_met}
 use Rattle.plan_tree.specs.Rows.{kept}

@@ -5,13 +5,14 @@ use Rattle.rows.specs.declared.value.Value.{Value}
 use Rattle.rel_meaning.specs.Expression.{Expression}
 use Rattle.rows.specs.declared.plain.LayoutColumn.{LayoutColumn}
 use Rattle.rows.specs.declared.plain.LayoutPart.{LayoutPart}
-use Rattle.rel_meaning.specs.Layouts.{column_in, FitsColumns}
+use Rattle.rows.specs.Layouts.{column_in, FitsColumns, one_part}
 use Rattle.rows.specs.declared.plain.KeyPair.{KeyPair}
 use Rattle.plan_tree.specs.Assignments.{Assignment, bind}
 use Rattle.plan_tree.specs.Conjuncts.{is_within, all_met}
-use Rattle.plan_tree.specs.Keys.{values_match, all_keys_met}
+use Rattle.plan_tree.specs.Keys.{all_keys_met}
+use Rattle.rows.specs.Keys.{values_match, keys_match}
 use Rattle.plan_tree.specs.Combining.{AreApart, part_of, has_part, over, combined}
-use Rattle.plan_tree.specs.Rows.{kept, keys_match, probed, one_part}
+use Rattle.plan_tree.specs.Rows.{kept, probed}
 use Rattle.plan_tree.proofs.Sums.{total, only, Same, total_map, total_flat, total_filter, total_same, total_on}
 use Rattle.plan_tree.proofs.Choosing.{sum_over, sum_over_append, sum_over_only, sum_over_same}
 use Rattle.plan_tree.proofs.Agreement.{Agree, met_agrees}

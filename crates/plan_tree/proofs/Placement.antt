@@ -4,20 +4,21 @@ use Rattle.std.specs.List.{filter, AllByRecursion}
 use Rattle.std.specs.Ordering.{is_eq, ordering_reverse}
 use Rattle.std.specs.declared.cmp.Ordering.{Ordering}
 use Rattle.std.specs.declared.cmp.Ordering.TheVariants.{Less, Equal, Greater}
-use Rattle.rows.specs.Values.{value_cmp}
+use Rattle.rows.specs.Values.{value_cmp, is_null}
 use Rattle.rows.proofs.Orders.{value_total}
 use Rattle.rows.specs.declared.value.Value.{Value}
 use Rattle.rows.specs.declared.value.Value.TheVariants as value
 use Rattle.rel_meaning.specs.Expression as ex
 use Rattle.rel_meaning.specs.Expression.{Expression}
 use Rattle.rel_meaning.specs.declared.expr.CompareOp.TheVariants as op
-use Rattle.rel_meaning.specs.Eval.{compare_values, is_null}
+use Rattle.rel_meaning.specs.Eval.{compare_values}
 use Rattle.rel_meaning.specs.Meaning.{is_true}
 use Rattle.rows.specs.declared.plain.ColumnRef.{ColumnRef}
 use Rattle.rows.specs.declared.plain.KeyPair.{KeyPair}
 use Rattle.plan_tree.specs.Assignments.{Assignment}
 use Rattle.plan_tree.specs.Conjuncts.{is_within, names_none, is_met, all_met}
-use Rattle.plan_tree.specs.Keys.{Equality, column_ref, two_columns, equality_of, pair_of, pair_if, key_of, with_key, keys_of, no_key, values_match, is_key_met, all_keys_met}
+use Rattle.plan_tree.specs.Keys.{Equality, column_ref, two_columns, equality_of, pair_of, pair_if, key_of, with_key, keys_of, no_key, is_key_met, all_keys_met}
+use Rattle.rows.specs.Keys.{values_match}
 use Rattle.plan_tree.specs.Trees.{Shape, one, scan, join, has, is_inside, is_join_test, IsPlaced}
 use Rattle.plan_tree.proofs.Agreement.{first_of_both, second_of_both}
 

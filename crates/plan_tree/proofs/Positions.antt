@@ -16,7 +16,8 @@ use Rattle.rows.specs.RowFields.{row_in}
 use Rattle.rows.specs.Values.{row_cmp}
 use Rattle.rows.proofs.RowWhole.{decodes}
 use Rattle.plan_tree.specs.Combining.{combined, merged}
-use Rattle.plan_tree.specs.Rows.{keys_match, probed}
+use Rattle.plan_tree.specs.Rows.{probed}
+use Rattle.rows.specs.Keys.{keys_match}
 use Rattle.plan_tree.specs.Fragments.{EntryPlace, Stored, entry_row, matched, merge_slices, page_items, row_at, rows_in, slice_of, slice_start}
 use Rattle.plan_tree.specs.ShapeLaws.{HoldsBytes}
 use Rattle.plan_tree.specs.TreeLaws.{SameRows}

@@ -7,7 +7,7 @@ use Rattle.rel_meaning.specs.Expression.{Expression, Question}
 use Rattle.rel_meaning.specs.declared.query.Table.{Table}
 use Rattle.rel_meaning.specs.declared.query.Var.{Var}
 use Rattle.rows.specs.declared.plain.LayoutColumn.{LayoutColumn}
-use Rattle.rel_meaning.specs.Layouts.{column_type}
+use Rattle.rows.specs.Layouts.{column_type}
 use Rattle.rel_meaning.specs.Typing.{type_of, is_truth}
 use Rattle.rel_meaning.specs.Meaning.{IsResolved, layout_of, layout_from, columns_of}
 use Rattle.plan_tree.specs.Conjuncts.{is_within, conjuncts}

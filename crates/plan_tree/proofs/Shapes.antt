@@ -24,7 +24,7 @@ use Rattle.rows.proofs.RowBits.{IsBytes}
 use Rattle.rows.proofs.RowWhole.{decodes}
 use Rattle.rel_meaning.specs.Expression.{Output}
 use Rattle.rel_meaning.specs.Eval.{eval}
-use Rattle.rel_meaning.specs.Layouts.{all_columns, column_in, column_type, FitsColumns, HasType, IsRowIn}
+use Rattle.rows.specs.Layouts.{all_columns, column_in, column_type, FitsColumns, HasType, IsRowIn, one_part}
 use Rattle.rel_meaning.specs.Meaning.{bound_at, layout_column, project}
 use Rattle.rel_meaning.specs.Typing.{bound_if, integer_bound}
 use Rattle.rel_meaning.proofs.Typed.{column_typed, eval_typed}
@@ -36,7 +36,7 @@ use Rattle.plan_tree.specs.declared.fragment.Source.{Source}
 use Rattle.plan_tree.specs.declared.fragment.Source.TheVariants as source
 use Rattle.plan_tree.specs.Conjuncts.{all_met}
 use Rattle.plan_tree.specs.Combining.{AreApart, ComesFirst, IsOrdered, combined, has_part, merged, part_of}
-use Rattle.plan_tree.specs.Rows.{keys_match, one_part}
+use Rattle.rows.specs.Keys.{keys_match}
 use Rattle.plan_tree.specs.Pieces.{Probing, Ending, building, answering, folding, sorting, Piece}
 use Rattle.plan_tree.specs.Fragments.{EntryPlace, Stored, added, after_probe, all_rows, begun, ended, entry_item, given, matched, out, page_items, piped, position_rows, projected, rows_in, slice_of, source_layout, through, value_at, value_of}
 use Rattle.plan_tree.specs.ShapeLaws.{HaveShapes, HoldsBytes}

@@ -10,7 +10,7 @@ use Rattle.rows.proofs.Orders.{row_total, row_exact}
 use Rattle.rel_meaning.specs.Expression.{Question}
 use Rattle.rel_meaning.specs.declared.query.Table.{Table}
 use Rattle.rel_meaning.specs.declared.query.Var.{Var}
-use Rattle.rel_meaning.specs.Layouts.{FitsColumns}
+use Rattle.rows.specs.Layouts.{FitsColumns}
 use Rattle.rel_meaning.specs.Meaning.{IsResolved, IsTable, meaning, layout_column, rows_at, columns_at}
 use Rattle.plan_tree.specs.declared.tree.Method.{Method}
 use Rattle.plan_tree.specs.declared.tree.Way.{Way}

@@ -13,7 +13,7 @@ use Rattle.rel_meaning.specs.Expression.{Question}
 use Rattle.rel_meaning.specs.declared.query.Table.{Table}
 use Rattle.rows.specs.declared.plain.LayoutColumn.{LayoutColumn}
 use Rattle.rows.specs.declared.plain.LayoutPart.{LayoutPart}
-use Rattle.rel_meaning.specs.Layouts.{column_in, FitsColumns}
+use Rattle.rows.specs.Layouts.{column_in, FitsColumns}
 use Rattle.rel_meaning.specs.Meaning.{combos, value_in, passes, project, meaning}
 use Rattle.plan_tree.specs.declared.tree.Way.{Way}
 use Rattle.plan_tree.specs.Assignments.{Assignment, blank, rows_for}

@@ -10,7 +10,7 @@ use Rattle.rows.specs.declared.value.Value.{Value}
 use Rattle.rows.specs.Values.{column_of}
 use Rattle.rel_meaning.specs.Expression.{Expression}
 use Rattle.rows.specs.declared.plain.LayoutColumn.{LayoutColumn}
-use Rattle.rel_meaning.specs.Layouts.{FitsColumns}
+use Rattle.rows.specs.Layouts.{FitsColumns, one_part}
 use Rattle.rel_meaning.specs.Meaning.{is_true}
 use Rattle.rows.specs.declared.plain.KeyPair.{KeyPair}
 use Rattle.plan_tree.specs.declared.tree.Way.{Way}
@@ -20,7 +20,7 @@ use Rattle.plan_tree.specs.declared.tree.Method.{Method}
 use Rattle.plan_tree.specs.Keys.{key_of, keys_of, with_key, no_key}
 use Rattle.plan_tree.specs.Trees.{Shape, one, scan, join, has, scans, is_inside, is_join_test, IsPlaced}
 use Rattle.plan_tree.specs.Combining.{AreApart, IsOrdered, part_of, has_part}
-use Rattle.plan_tree.specs.Rows.{kept, probed, one_part, layout_of_tree, tree_rows}
+use Rattle.plan_tree.specs.Rows.{kept, probed, layout_of_tree, tree_rows}
 use Rattle.plan_tree.proofs.Sums.{Same}
 use Rattle.plan_tree.proofs.Agreement.{Agree, eval_agrees, first_of_both, second_of_both}
 use Rattle.plan_tree.proofs.Placement.{met_if, at_node, holds, placed_node, key_is, within_more, left_more, right_more}

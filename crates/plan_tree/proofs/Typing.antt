@@ -9,14 +9,15 @@ use Rattle.rel_meaning.specs.Expression.{Expression}
 use Rattle.rows.specs.declared.plain.LayoutColumn.{LayoutColumn}
 use Rattle.rows.specs.declared.plain.LayoutPart.{LayoutPart}
 use Rattle.rel_meaning.specs.declared.expr.ArithOp.{ArithOp}
-use Rattle.rel_meaning.specs.Layouts.{column_place, column_in, column_type, all_columns, FitsColumns, IsRowIn, HasType}
+use Rattle.rows.specs.Layouts.{column_place, column_in, column_type, all_columns, FitsColumns, IsRowIn, HasType}
 use Rattle.rel_meaning.specs.Typing.{type_of, integer_bound, negate_type, arith_type, compare_type, is_truth, truth_type}
 use Rattle.rel_meaning.proofs.Typed.{column_typed}
 use Rattle.rows.specs.declared.plain.KeyPair.{KeyPair}
 use Rattle.plan_tree.specs.Assignments.{Assignment}
 use Rattle.plan_tree.specs.Conjuncts.{is_within, operands, all_met}
 use Rattle.plan_tree.specs.Combining.{part_of, values_of, row_in, over, combined}
-use Rattle.plan_tree.specs.Rows.{kept, keys_match, probed}
+use Rattle.plan_tree.specs.Rows.{kept, probed}
+use Rattle.rows.specs.Keys.{keys_match}
 use Rattle.plan_tree.proofs.Agreement.{first_of_both, second_of_both}
 use Rattle.plan_tree.proofs.Combined.{or_part, Distinct}
 use Rattle.plan_tree.proofs.Elements.{all_append, all_filter, all_flat, all_map}

@@ -4,7 +4,7 @@ use Rattle.std.specs.List.{AllByRecursion}
 use Rattle.rows.specs.declared.value.Value.{Value}
 use Rattle.rows.specs.declared.plain.LayoutColumn.{LayoutColumn}
 use Rattle.rows.specs.declared.plain.LayoutPart.{LayoutPart}
-use Rattle.rel_meaning.specs.Layouts.{column_in}
+use Rattle.rows.specs.Layouts.{column_in}
 use Rattle.plan_tree.specs.Assignments.{Assignment}
 
 -- the variable of the part is below those of the others

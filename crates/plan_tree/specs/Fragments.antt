@@ -9,13 +9,14 @@ use Rattle.rows.specs.declared.plain.LayoutPart.{LayoutPart}
 use Rattle.rows.specs.Values.{arranged}
 use Rattle.rows.specs.RowFields.{row_in}
 use Rattle.rel_meaning.specs.Expression.{Output}
-use Rattle.rel_meaning.specs.Layouts.{column_in}
+use Rattle.rows.specs.Layouts.{column_in, one_part}
 use Rattle.rel_meaning.specs.Meaning.{layout_column, project}
 use Rattle.aggregate_op.specs.Partials.{partial}
 use Rattle.plan_tree.specs.declared.fragment.Source.{Source}
 use Rattle.plan_tree.specs.declared.fragment.Source.TheVariants as source
 use Rattle.plan_tree.specs.Combining.{has_part, merged, combined}
-use Rattle.plan_tree.specs.Rows.{kept, keys_match, probed, one_part}
+use Rattle.plan_tree.specs.Rows.{kept, probed}
+use Rattle.rows.specs.Keys.{keys_match}
 use Rattle.plan_tree.specs.Pieces.{Probing, Piping, Ending, building, answering, folding, sorting, Piece}
 
 -- ---- stored files

@@ -8,12 +8,12 @@ use Rattle.rows.specs.declared.plain.Bound.{Bound}
 use Rattle.rows.specs.declared.plain.BoundOp.{BoundOp}
 use Rattle.rows.specs.declared.plain.BoundOp.TheVariants as bound
 use Rattle.rows.specs.declared.plain.LayoutPart.{LayoutPart}
-use Rattle.rows.specs.Values.{value_cmp}
+use Rattle.rows.specs.Values.{value_cmp, is_null}
 use Rattle.rel_meaning.specs.declared.expr.CompareOp.{CompareOp}
 use Rattle.rel_meaning.specs.declared.expr.CompareOp.TheVariants as op
 use Rattle.rel_meaning.specs.Expression.{Expression}
-use Rattle.rel_meaning.specs.Eval.{compare_values, is_null}
-use Rattle.rel_meaning.specs.Layouts.{column_in}
+use Rattle.rel_meaning.specs.Eval.{compare_values}
+use Rattle.rows.specs.Layouts.{column_in}
 use Rattle.rel_meaning.specs.Meaning.{is_true}
 use Rattle.plan_tree.specs.Assignments.{Assignment}
 use Rattle.plan_tree.specs.Conjuncts.{all_met}

@@ -1,15 +1,13 @@
 -- Conjuncts that are equalities of two columns, and the key pairs that they make.
-use Rattle.std.specs.Prelude.{ℕ, Bool, true, false, not, ◌&&◌, List, [], ◌∷◌, Option, Some, None, if◌then◌else◌}
-use Rattle.std.specs.Ordering.{is_eq}
+use Rattle.std.specs.Prelude.{ℕ, Bool, true, false, ◌&&◌, List, [], ◌∷◌, Option, Some, None, if◌then◌else◌}
 use Rattle.rows.specs.declared.value.Value.{Value}
 use Rattle.rows.specs.declared.plain.ColumnRef.{ColumnRef}
 use Rattle.rows.specs.declared.plain.KeyPair.{KeyPair}
-use Rattle.rows.specs.Values.{value_cmp}
+use Rattle.rows.specs.Keys.{values_match}
 use Rattle.rel_meaning.specs.Expression as ex
 use Rattle.rel_meaning.specs.Expression.{Expression}
 use Rattle.rel_meaning.specs.declared.expr.CompareOp.{CompareOp}
 use Rattle.rel_meaning.specs.declared.expr.CompareOp.TheVariants as op
-use Rattle.rel_meaning.specs.Eval.{is_null}
 use Rattle.plan_tree.specs.Assignments.{Assignment}
 
 -- the two columns of a conjunct `a = b`
@@ -62,10 +60,6 @@ keys_of first second (c ∷ cs) = with_key (key_of first second c) (keys_of firs
 abbrev pub no_key : Option KeyPair → Bool
 no_key None = true
 no_key (Some key) = false
-
--- equal values of which none is null
-abbrev pub values_match : Value → Value → Bool
-values_match a b = not (is_null a) && not (is_null b) && is_eq (value_cmp a b)
 
 abbrev pub is_key_met : Assignment → KeyPair → Bool
 is_key_met e key = values_match (e key.build.var key.build.col) (e key.probe.var key.probe.col)

@@ -1,15 +1,15 @@
 -- The rows of trees.
-use Rattle.std.specs.Prelude.{ℕ, Bool, true, ◌&&◌, List, [], ◌∷◌, map, filter}
+use Rattle.std.specs.Prelude.{ℕ, List, [], ◌∷◌, map, filter}
 use Rattle.std.specs.List.{flat_map}
 use Rattle.rows.specs.declared.value.Value.{Value}
 use Rattle.rows.specs.declared.plain.KeyPair.{KeyPair}
 use Rattle.rows.specs.declared.plain.LayoutColumn.{LayoutColumn}
 use Rattle.rows.specs.declared.plain.LayoutPart.{LayoutPart}
 use Rattle.rel_meaning.specs.Expression.{Expression}
-use Rattle.rel_meaning.specs.Layouts.{column_in}
+use Rattle.rows.specs.Layouts.{column_in, one_part}
 use Rattle.plan_tree.specs.declared.tree.Way.{Way}
 use Rattle.plan_tree.specs.Conjuncts.{all_met}
-use Rattle.plan_tree.specs.Keys.{values_match}
+use Rattle.rows.specs.Keys.{keys_match}
 use Rattle.plan_tree.specs.Trees.{Shape, one, scan, join}
 use Rattle.plan_tree.specs.Combining.{combined, merged}
 
@@ -17,19 +17,9 @@ use Rattle.plan_tree.specs.Combining.{combined, merged}
 abbrev pub kept : List LayoutPart → List Expression → List (List Value) → List (List Value)
 kept layout tests rows = filter (λ row. all_met tests (column_in layout row)) rows
 
--- whether the keys of two rows are equal and hold no null
-abbrev pub keys_match : List LayoutPart → List LayoutPart → List KeyPair → List Value → List Value → Bool
-keys_match first second [] a b = true
-keys_match first second (key ∷ keys) a b =
-    values_match (column_in first a key.build.var key.build.col) (column_in second b key.probe.var key.probe.col) && keys_match first second keys a b
-
 -- each probing row, of the second layout, with each of the built rows that have its keys, in the order of the built rows
 abbrev pub probed : List LayoutPart → List LayoutPart → List LayoutPart → List KeyPair → List (List Value) → List (List Value) → List (List Value)
 probed layout first second keys built rows = flat_map (λ row. map (λ b. combined layout first second b row) (filter (λ b. keys_match first second keys b row) built)) rows
-
--- the part of a layout that a scan makes
-abbrev pub one_part : ℕ → List LayoutColumn → List LayoutPart
-one_part v columns = record { var = v; columns = columns } ∷ []
 
 -- the layout of a tree's rows, where the variables have these columns
 abbrev pub layout_of_tree : (ℕ → List LayoutColumn) → Shape → List LayoutPart

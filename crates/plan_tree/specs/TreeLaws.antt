@@ -8,7 +8,8 @@ use Rattle.rel_meaning.specs.declared.query.Table.{Table}
 use Rattle.plan_tree.specs.declared.tree.Way.{Way}
 use Rattle.plan_tree.specs.Assignments.{columns_for, rows_for}
 use Rattle.plan_tree.specs.Trees.{Shape, one, scan, join}
-use Rattle.plan_tree.specs.Rows.{kept, one_part, layout_of_tree, tree_rows}
+use Rattle.plan_tree.specs.Rows.{kept, layout_of_tree, tree_rows}
+use Rattle.rows.specs.Layouts.{one_part}
 use Rattle.plan_tree.specs.Fragments.{targets_of}
 
 -- each row stands as often in both lists

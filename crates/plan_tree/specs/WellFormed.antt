@@ -13,7 +13,7 @@ use Rattle.rows.specs.declared.plain.KeyPair.{KeyPair}
 use Rattle.rows.specs.declared.plain.LayoutColumn.{LayoutColumn}
 use Rattle.rows.specs.declared.plain.LayoutPart.{LayoutPart}
 use Rattle.rel_meaning.specs.Expression.{Expression, Output}
-use Rattle.rel_meaning.specs.Layouts.{all_columns, column_place, column_type, HasType, IsRowIn}
+use Rattle.rows.specs.Layouts.{all_columns, column_place, column_type, HasType, IsRowIn}
 use Rattle.rel_meaning.specs.Typing.{type_of, is_truth, compare_type, integer_bound}
 use Rattle.aggregate_op.specs.declared.fold.Fold.{Fold}
 use Rattle.aggregate_op.specs.declared.fold.FoldOp.{FoldOp}

@@ -15,11 +15,10 @@ use Rattle.rows.specs.declared.plain.KeyEntry.{KeyEntry}
 use Rattle.rows.specs.declared.value.Value.{Value}
 use Rattle.rows.specs.RowBytes.{IsRowOf, row_bytes}
 use Rattle.rows.specs.RowFields.{row_in}
-use Rattle.rows.specs.Values.{column_of, row_cmp, value_cmp}
+use Rattle.rows.specs.Values.{column_of, row_cmp, value_cmp, is_null}
 use Rattle.rows.proofs.RowWhole.{row_again}
 use Rattle.heap_page.specs.Blocks.{joined}
 use Rattle.key_index.specs.Entries.{entry_cmp}
-use Rattle.rel_meaning.specs.Eval.{is_null}
 use Rattle.plan_tree.specs.TreeLaws.{SameRows}
 use Rattle.plan_tree.proofs.Bags.{same_occurrences}
 use Rattle.plan_tree.proofs.Elements.{all_filter}

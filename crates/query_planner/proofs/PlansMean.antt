@@ -14,15 +14,14 @@ use Rattle.rows.specs.declared.plain.LayoutPart.{LayoutPart}
 use Rattle.rows.specs.declared.plain.Relation.{Relation}
 use Rattle.rows.specs.declared.value.Value.{Value}
 use Rattle.rows.specs.RowBytes.{IsRowOf, row_bytes}
-use Rattle.rows.specs.Values.{value_cmp}
+use Rattle.rows.specs.Values.{value_cmp, is_null}
 use Rattle.heap_page.specs.Blocks.{blocks_of, item_weight, joined}
 use Rattle.heap_page.proofs.Cut.{are_blocks}
 use Rattle.key_index.specs.Intervals.{interval_of}
 use Rattle.rel_meaning.specs.declared.query.Table.{Table}
 use Rattle.rel_meaning.specs.declared.query.Var.{Var}
-use Rattle.rel_meaning.specs.Eval.{is_null}
 use Rattle.rel_meaning.specs.Expression.{Expression, Question}
-use Rattle.rel_meaning.specs.Layouts.{column_place, value_at}
+use Rattle.rows.specs.Layouts.{column_place, value_at, one_part}
 use Rattle.rel_meaning.specs.Meaning.{IsResolved, columns_at, layout_column, meaning, rows_at}
 use Rattle.plan_tree.specs.declared.tree.Method.{Method}
 use Rattle.plan_tree.specs.declared.tree.Way.{Way}
@@ -30,7 +29,7 @@ use Rattle.plan_tree.specs.declared.tree.Way.TheVariants as way
 use Rattle.plan_tree.specs.Assignments.{columns_if, rows_if}
 use Rattle.plan_tree.specs.Conjuncts.{conjuncts}
 use Rattle.plan_tree.specs.Intervals.{AreEntries, Sets, interval_end, interval_rows, key_in, lower_end}
-use Rattle.plan_tree.specs.Rows.{kept, one_part}
+use Rattle.plan_tree.specs.Rows.{kept}
 use Rattle.plan_tree.specs.TreeLaws.{SameRows, ScanReads, tree_answer}
 use Rattle.plan_tree.specs.Trees.{IsPlaced, IsTree, Shape, join, one, scan, scan_tests}
 use Rattle.plan_tree.proofs.Elements.{all_drop, all_map, all_take}

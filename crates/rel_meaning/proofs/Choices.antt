@@ -1,5 +1,5 @@
 -- The rows that the code finds are the choices of the meaning.
-use Rattle.std.proofs.Common.{◌≡◌, ℕ, ◌+◌, ◌-◌, ◌<◌, ◌≤◌, suc, zero, Bool, true, false, cond, ◌==◌, nat_lt, List, [], ◌∷◌, ◌++◌, length, map, Option, Some, None, refl, sym, ap, ◌∙◌, subst, arith, append_assoc, get_or, slice_get, slice_index_or, IsSome}
+use Rattle.std.proofs.Common.{◌≡◌, ℕ, ◌+◌, ◌-◌, ◌<◌, ◌≤◌, suc, zero, Bool, true, false, cond, ◌==◌, nat_lt, List, [], ◌∷◌, ◌++◌, length, map, Option, Some, None, refl, sym, ap, ◌∙◌, subst, arith, append_assoc, get_or, slice_get}
 use Rattle.std.specs.Prelude.{⊤}
 use Rattle.std.specs.List.{flat_map, filter, All, AllByRecursion}
 use Rattle.std.specs.Option.{option_map}
@@ -13,8 +13,7 @@ use Rattle.rel_meaning.specs.declared.query.Var.{Var}
 use Rattle.rel_meaning.specs.Expression.{Question}
 use Rattle.rel_meaning.specs.declared.query.Table.{Table}
 use Rattle.rows.specs.declared.plain.LayoutColumn.{LayoutColumn}
-use Rattle.rows.specs.declared.plain.LayoutPart.{LayoutPart}
-use Rattle.rel_meaning.specs.Layouts.{column_place, column_in, value_at, FitsColumns, IsRowIn, all_columns}
+use Rattle.rows.specs.Layouts.{column_place, column_in, value_at, FitsColumns, IsRowIn, all_columns}
 use Rattle.rel_meaning.specs.Meaning.{rows_at, rows_of, columns_at, columns_of, layout_from, layout_of, combos, value_in, passes, project, IsTable}
 use Rattle.rel_meaning.specs.Joined.{joined, answers}
 use Rattle.rel_meaning.proofs.Typed.{fits_length}

@@ -1,5 +1,5 @@
 -- A well typed expression has a value of its type.
-use Rattle.std.proofs.Common.{◌≡◌, ℕ, ◌+◌, ◌-◌, ◌*◌, ◌<◌, ◌≤◌, suc, zero, ℤ, nat_abs, Bool, true, false, cond, List, [], ◌∷◌, length, Option, Some, None, refl, sym, ap, ◌∙◌, subst, arith, rules, IsSome, is_some, ◌&&◌, mul-le-mul, nat_le, slice_get}
+use Rattle.std.proofs.Common.{◌≡◌, ℕ, ◌≤◌, suc, zero, ℤ, nat_abs, Bool, true, false, cond, List, [], ◌∷◌, length, Option, Some, None, refl, sym, ap, subst, arith, IsSome, is_some, ◌&&◌, mul-le-mul, nat_le, slice_get}
 use Rattle.std.specs.Prelude.{⊤}
 use Rattle.std.specs.Option.{option_and_then}
 use Rattle.rows.specs.declared.value.Value.{Value}
@@ -15,7 +15,7 @@ use Rattle.rel_meaning.specs.Expression.{Expression}
 use Rattle.rows.specs.declared.plain.LayoutColumn.{LayoutColumn}
 use Rattle.rows.specs.declared.plain.LayoutPart.{LayoutPart}
 use Rattle.rel_meaning.specs.Eval.{eval, number_of, negate_value, arith_values, compare_values, not_value, and_values, or_values}
-use Rattle.rel_meaning.specs.Layouts.{HasType, FitsColumns, all_columns, IsRowIn, column_place, column_type, column_in, value_at}
+use Rattle.rows.specs.Layouts.{HasType, FitsColumns, all_columns, IsRowIn, column_place, column_type, column_in, value_at}
 use Rattle.rel_meaning.specs.Typing.{type_of, integer_within, integer_bound, bound_if, bound_of, negate_type, arith_type, compare_type, same_type, is_truth, text_type, truth_type, CanNegate, CanCompute}
 use Rattle.std.proofs.lemmas.Bool.Decides.{nat_tests}
 use Rattle.rel_meaning.proofs.Sizes.{size_neg, size_add, size_sub, size_mul}

@@ -1,5 +1,5 @@
 -- A query's rows as the code finds them: each choice as one row, and values by the layout.
-use Rattle.std.specs.Prelude.{◌≡◌, Bool, List, [], ◌∷◌, ◌++◌, Option, Some, None, map, filter}
+use Rattle.std.specs.Prelude.{List, [], ◌∷◌, ◌++◌, map, filter}
 use Rattle.std.specs.List.{flat_map}
 use Rattle.rows.specs.declared.value.Value.{Value}
 use Rattle.rel_meaning.specs.declared.query.Var.{Var}
@@ -8,7 +8,7 @@ use Rattle.rel_meaning.specs.declared.answer.Choice.{Choice}
 use Rattle.rel_meaning.specs.declared.answer.Choice.TheVariants.{One, Several}
 use Rattle.rel_meaning.specs.declared.query.Table.{Table}
 use Rattle.rows.specs.declared.plain.LayoutPart.{LayoutPart}
-use Rattle.rel_meaning.specs.Layouts.{column_in}
+use Rattle.rows.specs.Layouts.{column_in}
 use Rattle.rel_meaning.specs.Meaning.{rows_of, passes, project}
 
 -- the choices of rows for the variables, each behind a front

@@ -1,5 +1,5 @@
 -- What a query means.
-use Rattle.std.specs.Prelude.{◌≡◌, ◌<◌, ℕ, ◌+◌, ◌^◌, Bool, true, false, List, [], ◌∷◌, length, slice_get, slice_index_or, Option, Some, None, IsSome, IfSome, All, map, filter, IsTrue}
+use Rattle.std.specs.Prelude.{◌<◌, ℕ, ◌+◌, ◌^◌, Bool, true, false, List, [], ◌∷◌, length, slice_get, slice_index_or, Option, Some, None, IsSome, IfSome, All, map, filter, IsTrue}
 use Rattle.std.specs.List.{flat_map}
 use Rattle.rows.specs.declared.value.Value.{Value}
 use Rattle.rows.specs.declared.value.Value.TheVariants as value
@@ -13,7 +13,7 @@ use Rattle.rel_meaning.specs.declared.query.Table.{Table}
 use Rattle.rows.specs.declared.plain.LayoutColumn.{LayoutColumn}
 use Rattle.rows.specs.declared.plain.LayoutPart.{LayoutPart}
 use Rattle.rel_meaning.specs.Eval.{eval}
-use Rattle.rel_meaning.specs.Layouts.{column_type, FitsColumns}
+use Rattle.rows.specs.Layouts.{column_type, FitsColumns}
 use Rattle.rel_meaning.specs.Typing.{type_of, is_truth}
 
 abbrev pub rows_at : Option Table → List (List Value)

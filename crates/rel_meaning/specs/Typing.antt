@@ -1,5 +1,5 @@
 -- The type and the bound of an expression.
-use Rattle.std.specs.Prelude.{◌≡◌, ℕ, ◌+◌, ◌*◌, ◌^◌, ◌-◌, ℤ, nat_abs, Bool, true, false, nat_le, ◌&&◌, is_some, ⊤, ◌<◌, List, [], ◌∷◌, if◌then◌else◌, Option, Some, None}
+use Rattle.std.specs.Prelude.{ℕ, ◌+◌, ◌*◌, ◌^◌, nat_abs, Bool, true, false, nat_le, ◌&&◌, is_some, ⊤, ◌<◌, if◌then◌else◌, Option, Some, None}
 use Rattle.rows.specs.declared.value.Value.{Value}
 use Rattle.rows.specs.declared.value.Value.TheVariants as value
 use Rattle.rel_meaning.specs.Eval.{number_of}

@@ -2,7 +2,7 @@ ghost use Rattle.std.specs.Prelude.{◌≡◌, ◌<◌, ◌^◌, ◌++◌, [], �
 ghost use Rattle.std.specs.Option.{option_map};
 ghost use Rattle.rel_meaning.specs.Expression.{expression_of, output_of, question_of};
 ghost use Rattle.rel_meaning.specs.Joined.{answers, joined, row_of};
-ghost use Rattle.rel_meaning.specs.Layouts.{column_in, column_type, IsRowIn};
+ghost use Rattle.rows.specs.Layouts.{column_in, column_type, IsRowIn};
 ghost use Rattle.rel_meaning.specs.Meaning.{layout_from, layout_of, layout_column, meaning, passes, project, IsResolved};
 ghost use Rattle.rel_meaning.specs.Typing.{type_of, is_truth};
 
@@ -70,8 +70,8 @@ fn with_choice<'a>(alloc: Global, front: &Row, row: &'a Row) -> Result<Choice<'a
     }
 }
 
-// The values of the targets.
-fn target_values(
+/// The values of the targets under a row of the layout.
+pub fn target_values(
     alloc: Global,
     targets: &[Target],
     row: &Row,

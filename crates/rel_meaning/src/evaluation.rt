@@ -1,14 +1,13 @@
 ghost use Rattle.std.specs.Prelude.{◌≡◌, IfOk, IsSome};
 ghost use Rattle.rel_meaning.specs.Eval.{eval, negate_value, arith_values, not_value, and_values, or_values};
 ghost use Rattle.rel_meaning.specs.Expression.{expression_of};
-ghost use Rattle.rel_meaning.specs.Layouts.{column_in, column_type, IsRowIn};
+ghost use Rattle.rows.specs.Layouts.{column_in, column_type, IsRowIn};
 ghost use Rattle.rel_meaning.specs.Typing.{type_of, CanNegate, CanCompute};
 
 use crate::expr::compared;
-use crate::place::place_of;
 use crate::{ArithOp, Expr};
 use lists::Duplicate;
-use rows::{Layout, Row, Value};
+use rows::{Layout, Row, Value, place_of};
 use std::alloc::{AllocError, Global};
 
 fn negated(value: Value) -> Value
@@ -64,7 +63,8 @@ fn either(left: Value, right: Value) -> Value
     }
 }
 
-fn column_value(
+/// The value of a variable's column in a row of the layout, and null where the layout has no such column.
+pub fn column_value(
     alloc: Global,
     row: &Row,
     layout: &Layout,

@@ -5,10 +5,13 @@
 mod answer;
 mod evaluation;
 mod expr;
-mod place;
+mod meeting;
 mod query;
+mod view;
 
-pub use answer::{answer_plain, column_layout};
-pub use evaluation::evaluate;
+pub use answer::{answer_plain, column_layout, target_values};
+pub use evaluation::{column_value, evaluate};
 pub use expr::{ArithOp, CompareOp, Expr};
+pub use meeting::meets_view;
 pub use query::{Database, Query, Table, Target, TargetList, Var, VarList};
+pub use view::evaluate_view;

@@ -1,5 +1,5 @@
 -- The row that bytes encode, whole.
-use Rattle.std.proofs.Common.{◌≡◌, ℕ, zero, suc, ◌+◌, ◌≤◌, ◌<◌, Bool, true, false, true≢false, cond, ◌&&◌, leb, eqb, List, [], ◌∷◌, ◌++◌, append_assoc, length, get_or, take, drop, refl, sym, ap, subst, ◌∙◌, arith, inl, inr, Option, Some, None, Result, Ok, Err, IfOk, option_map, option_and_then, is_some, IsTrue, flat_map, leb-true, le-leb, take-append-drop, length-append, length-take-le, take_at, drop_at}
+use Rattle.std.proofs.Common.{◌≡◌, ℕ, zero, suc, ◌+◌, ◌≤◌, ◌<◌, Bool, true, false, true≢false, cond, ◌&&◌, leb, eqb, List, [], ◌∷◌, ◌++◌, append_assoc, length, get_or, take, drop, refl, sym, ap, subst, ◌∙◌, arith, inl, inr, Option, Some, None, Result, Ok, Err, IfOk, option_map, option_and_then, is_some, IsSome, IfSome, IsTrue, lit≤, flat_map, leb-true, le-leb, take-append-drop, length-append, length-take-le, take_at, drop_at}
 use Rattle.std.proofs.lemmas.Option.{none-some}
 use Rattle.std.proofs.lemmas.Bool.{cases_Bool, and_parts, lt-leb}
 use Rattle.std.proofs.Math.Bool.{and-false}
@@ -8,7 +8,7 @@ use Rattle.std.proofs.lemmas.List.{drop_more}
 use Rattle.rows.specs.declared.value.Value.{Value}
 use Rattle.rows.specs.declared.plain.Column.{Column}
 use Rattle.rows.specs.Values.{column_of}
-use Rattle.rows.specs.RowBytes.{IsRowOf, bit_bytes, low_bytes, null_bits, row_bytes, value_bytes, Encodes, Decodes}
+use Rattle.rows.specs.RowBytes.{IsRowOf, nullables, bit_bytes, low_bytes, null_bits, row_bytes, value_bytes, Encodes, Decodes}
 use Rattle.rows.specs.RowFields.{Front, behind, bits_behind, ends, low_number, row_in, row_or_none, value_front, values_in}
 use Rattle.rows.proofs.RowBits.{IsBytes, bits_again, length-low_bytes, low_back}
 use Rattle.rows.proofs.RowValues.{IsBytes-take, IsBytes-drop, cond_true, cond_false, some_same, values_again, values_back}
@@ -137,6 +137,27 @@ pub there : (columns : List Column) (bytes : List ℕ) → IsBytes bytes → len
     Decodes columns bytes (values_in columns (low_number (take (bit_bytes columns) bytes)) (drop (bit_bytes columns) bytes))
 there columns bytes small few long = subst (Decodes columns bytes) (rw (le-leb _ _ few, le-leb _ _ long) refl) (decodes columns bytes small)
 
+-- the parts of bytes that are long enough
+pub parts_of : (columns : List Column) (bytes : List ℕ) → length columns ≤ 32 → bit_bytes columns ≤ length bytes →
+    row_in columns bytes ≡ values_in columns (low_number (take (bit_bytes columns) bytes)) (drop (bit_bytes columns) bytes)
+parts_of columns bytes few long = rw (le-leb _ _ few, le-leb _ _ long) refl
+
+nullables_few : (columns : List Column) → nullables columns ≤ length columns
+nullables_few [] = lit≤ tt
+nullables_few (c ∷ cs) = elim c.nullable as (λ b. cond b 1 0 + nullables cs ≤ suc (length cs)) [
+  | true ↦ omega (arith, nullables_few cs)
+  | false ↦ omega (arith, nullables_few cs)
+]
+
+-- the bits of 32 columns stand in four bytes
+pub bits_small : (columns : List Column) → length columns ≤ 32 → bit_bytes columns ≤ 4
+bits_small columns few = omega (arith, nullables_few columns)
+
+-- a row that is read is of the columns
+pub read_of : (columns : List Column) (bytes : List ℕ) (found : Option (List Value)) → Decodes columns bytes found → IfSome found (IsRowOf columns)
+read_of columns bytes None d = tt
+read_of columns bytes (Some row) d = d.sound.is_row
+
 pub some_of : (found : Option (List Value)) → is_some found ≡ true → found ≡ Some (row_or_none found)
 some_of None e = absurd (true≢false (sym e))
 some_of (Some row) e = refl
@@ -155,9 +176,10 @@ field_at cs bits bytes row place c e h b xs before =
     let pair : ◌≡◌ {A = ℕ × List ℕ} (a.bits_there, a.bytes_there) (b, xs) = some_same (a.bits_there, a.bytes_there) (b, xs) (sym a.before ∙ before) in
     (a.rest, ap (λ (p : ℕ × List ℕ). value_front (get_or cs place c) p.0 p.1) (sym pair) ∙ a.front)
 
-pub behind_there : (cs : List Column) (bits : ℕ) (bytes : List ℕ) (row : List Value) (place : ℕ) (c : Column) → values_in cs bits bytes ≡ Some row → place < length cs →
-    behind (take place cs) bits bytes ≡ None → ⊥
-behind_there cs bits bytes row place c e h none = let a = at cs bits bytes row place c e h in none-some (a.bits_there, a.bytes_there) (sym none ∙ a.before)
+-- what stands before a column of a row that is read
+pub behind_some : (cs : List Column) (bits : ℕ) (bytes : List ℕ) (row : List Value) (place : ℕ) (c : Column) → values_in cs bits bytes ≡ Some row → place < length cs →
+    IsSome (behind (take place cs) bits bytes)
+behind_some cs bits bytes row place c e h = ap is_some (at cs bits bytes row place c e h).before
 
 -- one value more of a row that is read
 pub one_more : (cs : List Column) (i bits : ℕ) (bytes : List ℕ) (tail : List Value) (c : Column) → i < length cs → c ≡ get_or cs i c → values_in (drop i cs) bits bytes ≡ Some tail →

@@ -1,5 +1,5 @@
 -- A row read from its bytes, value by value, as the code does.
-use Rattle.std.specs.Prelude.{ℕ, FitsSigned, ◌≤◌, ⊤, ◌+◌, ◌*◌, ◌/◌, ◌%◌, ◌&&◌, ◌||◌, ◌==◌, nat_lt, nat_le, Bool, true, false, List, [], ◌∷◌, length, take, drop, if◌then◌else◌, Option, Some, None}
+use Rattle.std.specs.Prelude.{◌≡◌, ℕ, FitsSigned, ◌≤◌, ⊤, ◌+◌, ◌*◌, ◌/◌, ◌%◌, ◌&&◌, ◌||◌, ◌==◌, nat_lt, nat_le, Bool, true, false, List, [], ◌∷◌, length, take, drop, if◌then◌else◌, Option, Some, None}
 use Rattle.std.specs.Option.{option_map, option_and_then}
 use Rattle.std.specs.Int.{w16, w32, from_be_bytes, cast_signed}
 use Rattle.std.specs.Str.{is_utf8}
@@ -16,6 +16,10 @@ IsStorable Null = ⊤
 IsStorable (Number n) = FitsSigned w32 n
 IsStorable (Word w) = length w ≤ 2000
 IsStorable (Truth b) = ⊤
+
+-- the second list begins with the first
+abbrev pub IsFront : List ℕ → List ℕ → Type 0
+IsFront front bytes = take (length front) bytes ≡ front
 
 -- the number that bytes write, the lowest first
 abbrev pub low_number : List ℕ → ℕ

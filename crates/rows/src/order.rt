@@ -5,8 +5,8 @@ ghost use Rattle.lists.specs.Arranged.{sort_by};
 ghost use Rattle.rows.specs.Values.{value_cmp, column_of, key_cmp, row_cmp, arranged};
 
 use crate::{Row, Value};
-use lists::Sequence;
-use std::alloc::AllocError;
+use lists::{Duplicate, Sequence};
+use std::alloc::{AllocError, Global};
 use std::cmp::Ordering;
 
 /// A column to sort by, up or down.
@@ -14,6 +14,12 @@ use std::cmp::Ordering;
 pub struct SortKey {
     pub column: u32,
     pub down: bool,
+}
+
+impl Duplicate for SortKey {
+    fn duplicate(&self, _alloc: Global) -> Result<SortKey, AllocError> {
+        Ok(*self)
+    }
 }
 
 pub type SortKeyList = Sequence<SortKey>;

@@ -31,6 +31,17 @@ pub struct Relation {
     pub index: Option<u32>,
 }
 
+impl Duplicate for Relation {
+    fn duplicate(&self, alloc: Global) -> Result<Relation, AllocError> {
+        Ok(Relation {
+            name: self.name.duplicate(alloc)?,
+            file: self.file.duplicate(alloc)?,
+            columns: self.columns.duplicate(alloc)?,
+            index: self.index,
+        })
+    }
+}
+
 /// The relations in catalogue order.
 pub type Catalog = Sequence<Relation>;
 
@@ -41,6 +52,12 @@ pub struct ColumnRef {
     pub col: u32,
 }
 
+impl Duplicate for ColumnRef {
+    fn duplicate(&self, _alloc: Global) -> Result<ColumnRef, AllocError> {
+        Ok(*self)
+    }
+}
+
 pub type ColumnRefList = Sequence<ColumnRef>;
 
 /// Two columns whose values are to be equal in a join.
@@ -48,6 +65,12 @@ pub type ColumnRefList = Sequence<ColumnRef>;
 pub struct KeyPair {
     pub build: ColumnRef,
     pub probe: ColumnRef,
+}
+
+impl Duplicate for KeyPair {
+    fn duplicate(&self, _alloc: Global) -> Result<KeyPair, AllocError> {
+        Ok(*self)
+    }
 }
 
 pub type KeyPairList = Sequence<KeyPair>;
@@ -63,6 +86,12 @@ pub struct KeyIndex {
     pub heap_pages: u32,
 }
 
+impl Duplicate for KeyIndex {
+    fn duplicate(&self, _alloc: Global) -> Result<KeyIndex, AllocError> {
+        Ok(*self)
+    }
+}
+
 pub type KeyIndexList = Sequence<KeyIndex>;
 
 /// A key, and where its row stands: the heap page and the slot on it.
@@ -71,6 +100,16 @@ pub struct KeyEntry {
     pub key: Value,
     pub page: u32,
     pub slot: u32,
+}
+
+impl Duplicate for KeyEntry {
+    fn duplicate(&self, alloc: Global) -> Result<KeyEntry, AllocError> {
+        Ok(KeyEntry {
+            key: self.key.duplicate(alloc)?,
+            page: self.page,
+            slot: self.slot,
+        })
+    }
 }
 
 pub type KeyEntryList = Sequence<KeyEntry>;
@@ -97,6 +136,12 @@ pub struct Step {
     pub backends: u32,
 }
 
+impl Duplicate for Step {
+    fn duplicate(&self, _alloc: Global) -> Result<Step, AllocError> {
+        Ok(*self)
+    }
+}
+
 pub type StepList = Sequence<Step>;
 
 /// How a column is compared with a constant.
@@ -116,6 +161,15 @@ pub struct Bound {
     pub value: Value,
 }
 
+impl Duplicate for Bound {
+    fn duplicate(&self, alloc: Global) -> Result<Bound, AllocError> {
+        Ok(Bound {
+            op: self.op,
+            value: self.value.duplicate(alloc)?,
+        })
+    }
+}
+
 pub type BoundList = Sequence<Bound>;
 
 /// A column of a layout. `bound` is the greatest size of an integer without its sign, and 0 for another type.
@@ -125,6 +179,12 @@ pub struct LayoutColumn {
     pub bound: u64,
 }
 
+impl Duplicate for LayoutColumn {
+    fn duplicate(&self, _alloc: Global) -> Result<LayoutColumn, AllocError> {
+        Ok(*self)
+    }
+}
+
 pub type LayoutColumnList = Sequence<LayoutColumn>;
 
 /// The columns that a range variable has in a layout.
@@ -132,6 +192,15 @@ pub type LayoutColumnList = Sequence<LayoutColumn>;
 pub struct LayoutPart {
     pub var: u32,
     pub columns: LayoutColumnList,
+}
+
+impl Duplicate for LayoutPart {
+    fn duplicate(&self, alloc: Global) -> Result<LayoutPart, AllocError> {
+        Ok(LayoutPart {
+            var: self.var,
+            columns: self.columns.duplicate(alloc)?,
+        })
+    }
 }
 
 /// The parts of joined rows, in ascending order of their variables.

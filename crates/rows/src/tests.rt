@@ -1,6 +1,7 @@
 use crate::{
-    ColType, Column, FieldErr, Row, RowView, SortKey, Text, Value, arrange_rows, compare,
-    decode_row, encode_row, field_text, read_field, row_order, row_size,
+    Bound, BoundOp, ColType, Column, FieldErr, KeyEntry, LayoutColumn, LayoutPart, Relation, Row,
+    RowReader, RowView, SortKey, Text, Value, arrange_rows, compare, compare_views, decode_row,
+    encode_row, field_text, read_field, row_order, row_size,
 };
 use lists::{Duplicate, Sequence};
 use std::alloc::{AllocError, Global};
@@ -106,11 +107,56 @@ fn rows_are_read_from_their_bytes_and_written_again(rt: HostRuntime) -> Result<(
         let Some(view) = RowView::read(bytes, &columns) else {
             return Err(Fail::from(AllocError));
         };
+        assert!(rt; RowReader::of(&columns).read(bytes).is_some());
+        assert_eq!(rt; compare_views(view.field(1), view.field(2)), Ordering::Less);
         let seen = view.field(1).to_value(alloc)?;
-        assert_eq!(rt; compare(&seen, &row.items()[1]), Ordering::Equal);
+        assert!(rt; row.len() > 1);
+        assert_eq!(rt; compare(&seen, row.get(1)), Ordering::Equal);
         assert_eq!(rt; row_order(&view.to_row(alloc)?, &row, &[]), Ordering::Equal);
     }
     let not_a_row = b"\x04\x00\x01y\x00\x00\x00\x01\x00\x00\x00\x02".as_slice();
     assert!(rt; decode_row(alloc, not_a_row, &columns)?.is_none());
+    Ok(())
+}
+
+#[test]
+fn texts_and_lists_are_copied(rt: HostRuntime) -> Result<(), Fail> {
+    let alloc = rt.alloc();
+    let mut text = Text::new(alloc);
+    for byte in [b'a', b'b'] {
+        assert!(rt; text.push(byte).is_ok());
+    }
+    assert_eq!(rt; text.len(), 2);
+    assert!(rt; text.len() > 1);
+    assert_eq!(rt; *text.get(1), b'b');
+    assert_eq!(rt; text.copy(alloc)?.items(), b"ab".as_slice());
+    let column = LayoutColumn {
+        col_type: ColType::Int4,
+        bound: 9,
+    };
+    let columns = Sequence::from_vec(vec![in alloc; column]?);
+    let layout = Sequence::from_vec(vec![in alloc; LayoutPart { var: 2, columns }]?);
+    let layout = layout.copy(alloc)?;
+    assert_eq!(rt; layout.len(), 1);
+    let catalog = Sequence::from_vec(vec![in alloc;
+        Relation {
+            name: text.copy(alloc)?,
+            file: text.copy(alloc)?,
+            columns: Sequence::new(alloc),
+            index: Some(0),
+        },
+    ]?);
+    assert_eq!(rt; catalog.copy(alloc)?.len(), 1);
+    let entry = KeyEntry {
+        key: Value::Word(text),
+        page: 1,
+        slot: 2,
+    };
+    assert_eq!(rt; entry.duplicate(alloc)?.slot, 2);
+    let bound = Bound {
+        op: BoundOp::More,
+        value: Value::Null,
+    };
+    assert_eq!(rt; bound.duplicate(alloc)?.op, BoundOp::More);
     Ok(())
 }

@@ -17,14 +17,13 @@ use Rattle.lists.proofs.Arranging.{bag_fixes, occurrences-permutation}
 use Rattle.heap_page.specs.Blocks.{FitsAlone, blocks_of, item_weight, laid, weight_of}
 use Rattle.heap_page.proofs.Cut.{laid_end, laid_more, laid_next, weight-append}
 use Rattle.key_index.specs.Entries.{AreEntries, IsEntry, entry_cmp}
-use Rattle.rel_meaning.specs.Eval.{is_null}
 use Rattle.rows.specs.declared.field.ColType.{ColType}
 use Rattle.rows.specs.declared.plain.Column.{Column}
 use Rattle.rows.specs.declared.plain.KeyEntry.{KeyEntry}
 use Rattle.rows.specs.declared.value.Value.{Value}
 use Rattle.rows.specs.declared.value.Value.TheVariants.{Null, Number, Word, Truth}
 use Rattle.rows.specs.RowBytes.{IsOfType, IsRowOf, IsValueOf}
-use Rattle.rows.specs.Values.{column_of, value_cmp}
+use Rattle.rows.specs.Values.{column_of, value_cmp, is_null}
 use Rattle.rows.proofs.Orders.{value_exact, value_total}
 use Rattle.table_store.specs.declared.entries.Filling.{Filling}
 use Rattle.table_store.specs.Entries.{IsIndexOf, Place, at_places, behind, keyed, keys_of, placed, places_from, places_of, places_on, put_at, type_at}

@@ -5,13 +5,12 @@ use Rattle.std.specs.List.Sorted.{IsPermutation}
 use Rattle.lists.specs.Arranged.{Ascends}
 use Rattle.heap_page.specs.Blocks.{item_weight}
 use Rattle.key_index.specs.Entries.{entry_cmp}
-use Rattle.rel_meaning.specs.Eval.{is_null}
 use Rattle.rows.specs.declared.field.ColType.{ColType}
 use Rattle.rows.specs.declared.field.ColType.TheVariants.{Int4}
 use Rattle.rows.specs.declared.plain.Column.{Column}
 use Rattle.rows.specs.declared.plain.KeyEntry.{KeyEntry}
 use Rattle.rows.specs.declared.value.Value.{Value}
-use Rattle.rows.specs.Values.{column_of}
+use Rattle.rows.specs.Values.{column_of, is_null}
 use Rattle.table_store.specs.declared.entries.Filling.{Filling}
 
 -- the type of a column

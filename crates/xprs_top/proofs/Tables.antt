@@ -12,7 +12,7 @@ use Rattle.rows.specs.declared.value.Value.{Value}
 use Rattle.rows.specs.declared.value.Value.TheVariants.{Null, Number, Word, Truth}
 use Rattle.rows.specs.RowBytes.{IsRowOf, IsValueOf, IsOfType}
 use Rattle.rel_meaning.specs.declared.query.Table.{Table}
-use Rattle.rel_meaning.specs.Layouts.{FitsColumns, HasType}
+use Rattle.rows.specs.Layouts.{FitsColumns, HasType}
 use Rattle.rel_meaning.specs.Meaning.{IsTable, layout_column, bound_at}
 use Rattle.std.specs.Int.{w32}
 use Rattle.std.proofs.Common.{FitsSigned}

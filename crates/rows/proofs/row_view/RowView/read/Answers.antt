@@ -1,32 +1,13 @@
-use Rattle.std.proofs.Common.{◌≡◌, ◌∙◌, sym, ap, subst, arith, length}
+use Rattle.std.proofs.Common.{◌∙◌, sym, ap, subst}
 use Rattle.std.proofs.Math.Facts.{Fits-lt-pow}
-use Rattle.rows.specs.RowBytes.{Decodes, bit_bytes}
-use Rattle.rows.specs.RowFields.{values_in}
-use Rattle.rows.proofs.RowWhole.{ends_where, too_many, too_short, there, some_of, none_of, same_values}
+use Rattle.rows.specs.RowBytes.{Decodes}
+use Rattle.rows.specs.RowFields.{row_in}
+use Rattle.rows.proofs.RowWhole.{decodes, read_of}
 use Rattle.rows.proofs.row_view.RowView.read.Goals as goal
-use Rattle.rows.proofs.row_view.RowView.read.Goals.{then-columns-gt32-via-then-columns-gt32, then-columns-gt32-via-else-columns-gt32+then-bytes-front}
 
-pub returns-then-columns-gt32 : goal.returns-then-columns-gt32
-returns-then-columns-gt32 c =
-    let front : c.bit_bytes-front.result ≡ bit_bytes c.args.columns.now = c.bit_bytes-front.ensures.value ∙ ap bit_bytes c.items-columns.ensures in
-    elim c.then-columns-gt32.branch [
-      | then-columns-gt32-via-then-columns-gt32 w ↦ too_many c.args.columns.now c.args.bytes.now (λ i. Fits-lt-pow (c.type_inv.bytes i)) (omega (arith, ap length c.items-columns.ensures, w.if-columns-gt32.true))
-      | then-columns-gt32-via-else-columns-gt32+then-bytes-front w ↦ too_short c.args.columns.now c.args.bytes.now (λ i. Fits-lt-pow (c.type_inv.bytes i)) (omega (arith, front, w.if-bytes-front.true))
-    ]
+pub returns-clause-encoded : goal.returns-clause-encoded
+returns-clause-encoded c = subst (Decodes c.args.columns.now c.args.bytes.now) (sym (c.read.ensures ∙ ap (λ cs. row_in cs c.args.bytes.now) c.of.ensures)) (decodes c.args.columns.now c.args.bytes.now (λ i. Fits-lt-pow (c.type_inv.bytes i)))
 
-pub invariant_of-result : goal.invariant_of-result
-invariant_of-result c = ends_where c.items-columns.result.now c.low_number-bits.result c.split_at.result.1.now ∙ (sym c.are_values.ensures ∙ c.if-are_values.true)
-
-pub returns-then-are_values : goal.returns-then-are_values
-returns-then-are_values c =
-    let front : c.bit_bytes-front.result ≡ bit_bytes c.args.columns.now = c.bit_bytes-front.ensures.value ∙ ap bit_bytes c.items-columns.ensures in
-    let d = there c.args.columns.now c.args.bytes.now (λ i. Fits-lt-pow (c.type_inv.bytes i)) (omega (arith, ap length c.items-columns.ensures, c.if-columns-gt32.false)) (omega (arith, front, c.if-bytes-front.false)) in
-    let same = same_values c.args.columns.now c.items-columns.result.now c.args.bytes.now c.split_at.result.0.now c.split_at.result.1.now c.bit_bytes-front.result c.low_number-bits.result front c.items-columns.ensures c.split_at.ensures.front c.split_at.ensures.back c.low_number-bits.ensures in
-    subst (Decodes c.args.columns.now c.args.bytes.now) (same ∙ some_of (values_in c.items-columns.result.now c.low_number-bits.result c.split_at.result.1.now) (ends_where c.items-columns.result.now c.low_number-bits.result c.split_at.result.1.now ∙ (sym c.are_values.ensures ∙ c.if-are_values.true))) d
-
-pub returns-else-are_values : goal.returns-else-are_values
-returns-else-are_values c =
-    let front : c.bit_bytes-front.result ≡ bit_bytes c.args.columns.now = c.bit_bytes-front.ensures.value ∙ ap bit_bytes c.items-columns.ensures in
-    let d = there c.args.columns.now c.args.bytes.now (λ i. Fits-lt-pow (c.type_inv.bytes i)) (omega (arith, ap length c.items-columns.ensures, c.if-columns-gt32.false)) (omega (arith, front, c.if-bytes-front.false)) in
-    let same = same_values c.args.columns.now c.items-columns.result.now c.args.bytes.now c.split_at.result.0.now c.split_at.result.1.now c.bit_bytes-front.result c.low_number-bits.result front c.items-columns.ensures c.split_at.ensures.front c.split_at.ensures.back c.low_number-bits.ensures in
-    subst (Decodes c.args.columns.now c.args.bytes.now) (same ∙ none_of (values_in c.items-columns.result.now c.low_number-bits.result c.split_at.result.1.now) (ends_where c.items-columns.result.now c.low_number-bits.result c.split_at.result.1.now ∙ (sym c.are_values.ensures ∙ c.if-are_values.false))) d
+pub returns-clause-of_columns : goal.returns-clause-of_columns
+returns-clause-of_columns c = read_of c.args.columns.now c.args.bytes.now c.read.result
+    (subst (Decodes c.args.columns.now c.args.bytes.now) (sym (c.read.ensures ∙ ap (λ cs. row_in cs c.args.bytes.now) c.of.ensures)) (decodes c.args.columns.now c.args.bytes.now (λ i. Fits-lt-pow (c.type_inv.bytes i))))

@@ -1,5 +1,5 @@
 -- Where the columns of range variables stand in a row, and what values they have.
-use Rattle.std.specs.Prelude.{◌≡◌, ◌≤◌, ℕ, ◌+◌, ℤ, nat_abs, Bool, true, false, ◌==◌, nat_lt, List, [], ◌∷◌, length, if◌then◌else◌, Option, Some, None, slice_get, ⊤}
+use Rattle.std.specs.Prelude.{◌≡◌, ◌≤◌, ℕ, ◌+◌, nat_abs, ◌==◌, nat_lt, List, [], ◌∷◌, length, if◌then◌else◌, Option, Some, None, slice_get, ⊤}
 use Rattle.std.specs.List.{flat_map}
 use Rattle.std.specs.Option.{option_map, option_and_then}
 use Rattle.rows.specs.declared.value.Value.{Value}
@@ -32,6 +32,10 @@ value_at row (Some place) = column_of row place
 -- the value of a variable's column in a row of the layout
 abbrev pub column_in : List LayoutPart → List Value → ℕ → ℕ → Value
 column_in layout row var column = value_at row (column_place layout var column)
+
+-- the layout of one variable
+abbrev pub one_part : ℕ → List LayoutColumn → List LayoutPart
+one_part var columns = record { var = var; columns = columns } ∷ []
 
 -- null, or of the type and within the bound
 abbrev pub HasType : Value → LayoutColumn → Type 0

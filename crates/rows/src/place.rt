@@ -1,10 +1,11 @@
 ghost use Rattle.std.specs.Prelude.{◌≡◌, ◌<◌, ◌^◌, length, IfSome};
-ghost use Rattle.rel_meaning.specs.Layouts.{column_place, all_columns};
+ghost use Rattle.rows.specs.Layouts.{column_place, all_columns};
 
-use rows::LayoutPart;
+use crate::LayoutPart;
 
-// The place of a variable's column in a row of the layout.
-pub(crate) fn place_of(layout: &[LayoutPart], var: u32, col: u32) -> Option<usize>
+/// The place of a variable's column in a row of the layout. It is `None` where the layout has no such column. The layout
+/// has fewer than 2^64 columns.
+pub fn place_of(layout: &[LayoutPart], var: u32, col: u32) -> Option<usize>
     requires { length (all_columns layout.now) < 2 ^ 64 }
     ensures place { result ≡ column_place layout.now var col }
     ensures within { IfSome result (λ place. place < length (all_columns layout.now)) }

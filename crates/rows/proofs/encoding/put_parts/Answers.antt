@@ -1,5 +1,5 @@
 use Rattle.rows.proofs.RowStored.{row_length, row_storable}
-use Rattle.rows.proofs.encoding.put_row.Goals as goal
+use Rattle.rows.proofs.encoding.put_parts.Goals as goal
 
 pub null_bits-bits-requires-clause-row : goal.null_bits-bits-requires-clause-row
 null_bits-bits-requires-clause-row c = rw (c.items.ensures, c.items-2.ensures) (row_length c.args.columns.now c.args.row.now c.requires.row)
