@@ -1,20 +1,25 @@
 -- The pages that a search passes.
 use Rattle.std.proofs.Common.{◌≡◌, ℕ, zero, suc, ◌+◌, ◌-◌, ◌<◌, ◌≤◌, Bool, List, Some, None, refl, sym, ap, subst, ◌∙◌, arith, inl, inr}
-use Rattle.std.specs.Prelude.{◌⊎◌}
+use Rattle.std.specs.Prelude.{MatchResult, Result, Ok, Err, ◌⊎◌}
 use Rattle.heap_page.specs.declared.errors.BadPage.{BadPage}
 use Rattle.heap_page.specs.declared.errors.FetchErr.{FetchErr}
 use Rattle.heap_page.specs.declared.errors.FetchErr.TheVariants as fetch
 use Rattle.rows.specs.declared.plain.KeyIndex.{KeyIndex}
 use Rattle.key_index.specs.Aims.{upto_number}
 use Rattle.key_index.specs.Entries.{Item}
-use Rattle.key_index.specs.Paths.{FirstBroken, HasEntry, HasRank, IfBad, IsBadAbove, IsBadHere, IsBadLeaf, IsFineHead, Reaches, ReachesLeaf, StopsEntry, StopsRank}
-use Rattle.key_index.specs.Searches.{BreaksAbove, BreaksEntry, BreaksRank, IsEntryAt, IsNext, Ranks}
+use Rattle.key_index.specs.Paths.{FirstBroken, HasEntry, HasRank, IfBad, IsBadAbove, IsBadHere, IsBadLeaf, IsFineHead, answer_from, Reaches, ReachesLeaf, StopsEntry, StopsRank}
+use Rattle.key_index.specs.Searches.{BreaksAbove, BreaksEntry, BreaksRank, IsEntryAt, IsNext, NotBad, Ranks}
 
 -- what holds of one bad page holds of another
 pub bad_too : (P Q : BadPage → Type 0) (e : FetchErr) → ((bad : BadPage) → P bad → Q bad) → IfBad P e → IfBad Q e
 bad_too P Q (fetch.DriveFault d) to h = tt
 bad_too P Q (fetch.BadPage bad) to h = to bad h
 bad_too P Q fetch.NoMemory to h = tt
+
+-- where no page is bad, what was taken is the answer
+pub taken : {T : Type 0} (file page : ℕ) (r : Result T ℕ) (got : Result T FetchErr) (P : T → Type 0) → got ≡ answer_from file page r → MatchResult r P (λ rule. ⊥) → MatchResult got P NotBad
+taken file page (Ok x) got P e h = rw e h
+taken file page (Err rule) got P e h = absurd h
 
 module _ (index : KeyIndex) (pages : ℕ → List ℕ) (p : Item → Bool) where
   pub at_root : Reaches index pages p (index.height - index.height) (index.pages - 1, 0)

@@ -1,5 +1,5 @@
 -- The pages that a search passes over told pages, from the root to a leaf, and the bad page at which it stops.
-use Rattle.std.specs.Prelude.{◌≡◌, ℕ, zero, suc, ◌+◌, ◌-◌, ◌<◌, ◌≤◌, Bool, List, [], ◌∷◌, Some, None, max, min, ⊤, ◌⊎◌}
+use Rattle.std.specs.Prelude.{◌≡◌, ℕ, zero, suc, ◌+◌, ◌-◌, ◌<◌, ◌≤◌, Bool, List, [], ◌∷◌, Some, None, max, min, Result, Ok, Err, ⊤, ◌⊎◌}
 use Rattle.heap_page.specs.declared.errors.BadPage.{BadPage}
 use Rattle.heap_page.specs.declared.errors.FetchErr.{FetchErr}
 use Rattle.heap_page.specs.declared.errors.FetchErr.TheVariants as fetch
@@ -20,6 +20,11 @@ abbrev pub IfBad : (BadPage → Type 0) → FetchErr → Type 0
 IfBad P (fetch.DriveFault d) = ⊤
 IfBad P (fetch.BadPage bad) = P bad
 IfBad P fetch.NoMemory = ⊤
+
+-- what was taken from a page, or the bad page with the rule that it breaks
+abbrev pub answer_from : {T : Type 0} → ℕ → ℕ → Result T ℕ → Result T FetchErr
+answer_from file page (Ok taken) = Ok taken
+answer_from file page (Err rule) = Err (fetch.BadPage (record { file = file; page = page; rule = rule }))
 
 -- the head of this page of the index breaks no rule
 abbrev pub IsFineHead : KeyIndex → (ℕ → List ℕ) → ℕ → Type 0

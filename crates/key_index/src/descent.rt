@@ -7,7 +7,7 @@ ghost use Rattle.key_index.specs.Aims.{IsFront, chosen, count, first_of, passes,
 ghost use Rattle.rows.specs.declared.plain.KeyEntry.{KeyEntry};
 ghost use Rattle.key_index.specs.Entries.{Item, items_of};
 ghost use Rattle.key_index.specs.Files.{HoldsIndex};
-ghost use Rattle.key_index.specs.Paths.{HasRank, IfBad, IsBadAbove, IsBadHere, IsFineHead, ReachesLeaf, StopsRank};
+ghost use Rattle.key_index.specs.Paths.{answer_from, HasRank, IfBad, IsBadAbove, IsBadHere, IsFineHead, ReachesLeaf, StopsRank};
 ghost use Rattle.key_index.specs.Searches.{BreaksAbove, BreaksEntry, BreaksRank, HasIndex, IsEntryAt, IsIndexPage, IsLeafFor, IsNext, IsUsable, NotBad, Ranks, SearchCause};
 
 use crate::aim::Aim;
@@ -38,6 +38,20 @@ fn fetch_page<P: PageSource>(
     pages.fetch(alloc, index.file, page)
 }
 
+// What a search takes from this page, or that the page is bad, with the rule that it breaks.
+fn answer_of<T>(index: &KeyIndex, page: u32, looked: Result<T, u32>) -> Result<T, FetchErr>
+    ensures { result ≡ answer_from index.now.file page looked }
+{
+    match looked {
+        Ok(taken) => Ok(taken),
+        Err(rule) => Err(FetchErr::BadPage(BadPage {
+            file: index.file,
+            page,
+            rule,
+        })),
+    }
+}
+
 // The page one level down that a search goes to, and how many entries stand left of it.
 fn step_down<P: PageSource>(
     alloc: Global,
@@ -62,14 +76,8 @@ fn step_down<P: PageSource>(
     ensures err { IfErr result (SearchCause index.now (P.drives (P.whole pages.old)) (P.faults pages.old) (P.faults pages.new)) }
 {
     let found = fetch_page(alloc, index, pages, page)?;
-    match look_above(index, found.bytes(), level, left, aim) {
-        Ok(next) => Ok(next),
-        Err(rule) => Err(FetchErr::BadPage(BadPage {
-            file: index.file,
-            page,
-            rule,
-        })),
-    }
+    let looked = look_above(index, found.bytes(), level, left, aim);
+    answer_of(index, page, looked)
 }
 
 // How many entries are counted, in this leaf and left of it.
@@ -94,14 +102,8 @@ fn leaf_rank<P: PageSource>(
     ensures err { IfErr result (SearchCause index.now (P.drives (P.whole pages.old)) (P.faults pages.old) (P.faults pages.new)) }
 {
     let found = fetch_page(alloc, index, pages, page)?;
-    match look_at_rank(index, found.bytes(), left, aim) {
-        Ok(rank) => Ok(rank),
-        Err(rule) => Err(FetchErr::BadPage(BadPage {
-            file: index.file,
-            page,
-            rule,
-        })),
-    }
+    let looked = look_at_rank(index, found.bytes(), left, aim);
+    answer_of(index, page, looked)
 }
 
 // The heap page and the slot of an entry of this leaf.
@@ -126,14 +128,8 @@ pub(crate) fn leaf_entry<P: PageSource>(
     ensures err { IfErr result (SearchCause index.now (P.drives (P.whole pages.old)) (P.faults pages.old) (P.faults pages.new)) }
 {
     let found = fetch_page(alloc, index, pages, page)?;
-    match look_at_entry(index, found.bytes(), left, number) {
-        Ok(at) => Ok(at),
-        Err(rule) => Err(FetchErr::BadPage(BadPage {
-            file: index.file,
-            page,
-            rule,
-        })),
-    }
+    let looked = look_at_entry(index, found.bytes(), left, number);
+    answer_of(index, page, looked)
 }
 
 // The leaf that a search reaches, and how many entries stand left of it.

@@ -20,7 +20,9 @@ use std::alloc::Global;
 /// `DriveFault` comes only where the drive's count rises. `BadPage` has a page of the index: where `fetch` answered it, or
 /// with the first rule that a page breaks: 6 the level is the one expected, 7 there is an entry, and all are there in
 /// whole, each key of the key's type, 8 the rest is zero, 9 the page below is one of the index, and no more entries stand
-/// left of it, or are counted, than the index has. Over a page that was fetched it takes no memory.
+/// left of it, or are counted, than the index has. Where the source tells, an answer has a path of pages from the root
+/// to a leaf, each of which breaks no rule and leads to the next, and a bad page is the one at which such a path stops,
+/// with the first rule that the told page breaks. Over a page that was fetched it takes no memory.
 pub fn rank_low<P: PageSource>(
     alloc: Global,
     index: &KeyIndex,
