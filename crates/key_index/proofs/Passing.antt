@@ -41,7 +41,7 @@ module _ (index : KeyIndex) (pages : ℕ → List ℕ) (p : Item → Bool) where
       above = omega (arith, most, lt);
       way = subst (λ (n : ℕ). Reaches index pages p (index.height - level) (n, left)) (sym h.0) way;
       breaks = subst (λ (n : ℕ). FirstBroken index pages n (BreaksAbove index (index.height - 1 - (index.height - level)) left p (pages n)) bad.rule) (sym h.0)
-      (subst (λ (l : ℕ). FirstBroken index pages page (BreaksAbove index l left p (pages page)) bad.rule) (sym same_level) h.1);
+          (subst (λ (l : ℕ). FirstBroken index pages page (BreaksAbove index l left p (pages page)) bad.rule) (sym same_level) h.1);
     }
 
     pub stops_above : (e : FetchErr) → IfBad (IsBadHere index pages page (BreaksAbove index (level - 1) left p (pages page))) e → IfBad (IsBadAbove index pages p) e
