@@ -1,5 +1,5 @@
 //! One turn on a shard.
-ghost use Rattle.std.specs.Prelude.{◌<◌, ◌≤◌, ℕ};
+ghost use Rattle.std.specs.Prelude.{◌≡◌, ◌<◌, ◌≤◌, ℕ};
 ghost use Rattle.run_lock.specs.Passes.{IsFree, IsSamePass, seen_of};
 ghost use Rattle.buffer_pool.specs.Counts.{GoesOn, count_of};
 ghost use Rattle.buffer_pool.specs.Fetched.{IsFetched};
@@ -27,6 +27,7 @@ pub(crate) fn fetch_at<D: Drive>(
     ensures on { IsOn shard.old shard.new }
     ensures turn { IsTurn place file page shard.old shard.new result }
     ensures fetched { (named : D) → Fits named shard.old → IsFetched (D.pages named) place file page (D.faults shard.old.drive) (D.faults shard.new.drive) result }
+    ensures frames { shard.new.cache.cap ≡ shard.old.cache.cap }
     ensures counter { GoesOn shard.old.counter shard.new.counter }
     ensures seen { (named : D) (seen : ℕ) → Fits named shard.old → seen ≤ shard.old.counter → IsFetched (D.pages named) place file page (count_of seen) (count_of shard.new.counter) result }
 {

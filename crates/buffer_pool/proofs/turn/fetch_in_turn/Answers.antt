@@ -23,6 +23,6 @@ pub returns-clause-fetched : goal.returns-clause-fetched
 returns-clause-fetched g c =
     let is : c.take-held.result.value.counter ≡ c.value.result.now.counter = ap (λ s. s.counter) (sym c.value.ensures.value) in
     let less : seen_of c.args.pass.now ≤ c.value.result.now.counter = omega (arith, c.take-held.ensures.grown, length-up_to c.take-held.result.value.counter, is) in
-    let fits = subst (λ s. Fits (lock_drive c.args.lock.now) s) (sym c.value.ensures.value) c.take-held.ensures.fits in
+    let fits = subst (λ s. Fits (lock_drive c.args.lock.now) s) (sym c.value.ensures.value) c.take-held.ensures.fits.0 in
     subst (λ n. IsFetched (g.D.Drive.pages (lock_drive c.args.lock.now)) c.args.place c.args.file c.args.page (count_of (seen_of c.args.pass.now)) (count_of n) c.fetch_at-answer.result)
     (sym (c.put.ensures.seen ∙ length-up_to c.fetch_at-answer.new.shard.counter)) (c.fetch_at-answer.ensures.seen (lock_drive c.args.lock.now) (seen_of c.args.pass.now) fits less)
