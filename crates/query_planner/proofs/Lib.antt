@@ -10,4 +10,4 @@ mod Ranks
 mod EntryRows
 mod PlansMean
 mod ReadingExamples
-mod Inside
+mod Left

@@ -1,4 +1,5 @@
 use Rattle.std.proofs.Common.{◌≡◌, ◌∙◌, ℕ, List, Option, ap, length, map, subst, sym}
+use Rattle.std.specs.Prelude.{IfOk}
 use Rattle.std.proofs.lemmas.Result.{IfErr-weaker, MatchResult-at_err, MatchResult-weaker}
 use Rattle.buffer_pool.specs.Images.{image_on}
 use Rattle.buffer_pool.specs.Lone.{count_at, drives_of, map_of}
@@ -8,7 +9,7 @@ use Rattle.key_index.specs.Searches.{NotBad}
 use Rattle.plan_tree.specs.Views.{planned_of}
 use Rattle.rel_meaning.specs.Expression.{question_of}
 use Rattle.query_planner.specs.Causes.{PlanCause, ReadCause}
-use Rattle.query_planner.specs.Plans.{AreBestPlans}
+use Rattle.query_planner.specs.Plans.{AreBestPlans, ArePlannedOver}
 use Rattle.query_planner.specs.Stored.{AreOf}
 use Rattle.query_planner.specs.Told.{AreTold}
 use Rattle.query_planner.proofs.Causing.{of_drives}
@@ -45,3 +46,7 @@ returns-clause-err g c =
     IfErr-weaker c.plans_of-plans.result (ReadCause laid image drives (count_at first) (count_at last)) (PlanCause g.D.Drive laid olds news)
     (λ e h. of_drives g.D.Drive laid image drives olds news first last e c.in-Ok.ensures.new.same c.into_drives.ensures.drives c.in-Ok.ensures.image count same h)
     c.plans_of-plans.ensures.err
+
+pub returns-clause-trees : goal.returns-clause-trees
+returns-clause-trees g c =
+    subst (λ (image : Option (ℕ → ℕ → List ℕ)). IfOk c.plans_of-plans.result (λ plans. ArePlannedOver c.args.relations.now c.args.laid.now image c.args.method (map question_of c.args.queries.now) (map planned_of plans))) c.in-Ok.ensures.image c.plans_of-plans.ensures.trees

@@ -8,7 +8,7 @@ use Rattle.plan_tree.specs.Views.{planned_of}
 use Rattle.heap_page.proofs.Found.{some_at}
 use Rattle.rel_meaning.specs.declared.query.Query.{Query}
 use Rattle.rel_meaning.specs.Expression.{question_of}
-use Rattle.query_planner.proofs.Inside.{one_over}
+use Rattle.query_planner.proofs.Left.{one_over}
 use Rattle.query_planner.proofs.SoFar.{all_planned, one_planned}
 use Rattle.query_planner.proofs.planning.plans_of.Goals as goal
 
@@ -35,7 +35,7 @@ loop-query-preserved g c =
       count = ap length items ∙ (length-append plans (plan ∷ []) ∙ ap (λ (n : ℕ). n + 1) inv.count);
       trees =
           let more : map planned_of c.push.new.self.items ≡ map planned_of plans ++ planned_of plan ∷ [] = ap (λ (ps : List Plan). map planned_of ps) items ∙ map-append planned_of plans (plan ∷ []) in
-          rw more (one_over c.args.known.now.laid.now c.args.method (map question_of queries) (map planned_of plans) place (question_of c.query-item.result) (planned_of plan) (length-map plans planned_of ∙ inv.count) inv.trees here step.tree);
+          rw more (one_over c.args.known.now.relations.now c.args.known.now.laid.now (g.P.PageSource.image (g.P.PageSource.whole c.args.pages.now)) c.args.method (map question_of queries) (map planned_of plans) place (question_of c.query-item.result) (planned_of plan) (length-map plans planned_of ∙ inv.count) inv.trees here (rw inv.whole at step.tree));
       told = λ tables tells.
           let now = rw (← inv.whole) at tells in
           let more : map planned_of c.push.new.self.items ≡ map planned_of plans ++ planned_of plan ∷ [] = ap (λ (ps : List Plan). map planned_of ps) items ∙ map-append planned_of plans (plan ∷ []) in
