@@ -45,6 +45,14 @@ map_again map copy files drives h = record {
 pub needs_again : (map copy : FileMap) (d : ℕ) → copy.files.items ≡ map.files.items → copy.drives ≡ map.drives → needs_of copy d ≡ needs_of map d
 needs_again map copy d files drives = (λ i. shares (drives i) d (files i))
 
+-- a page of a file has one place
+pub place_same : (files : FileMap) (file page : ℕ) (a b : Place) → HasPage files.files.items file page → IsPlaced files file page a → IsPlaced files file page b → a ≡ b
+place_same files file page a b has one other = λ i. record {
+  drive = (one.drive ∙ sym other.drive) i;
+  address = (one.address ∙ sym other.address) i;
+  kind = (sym (one.kind has.0 has.1) ∙ other.kind has.0 has.1) i;
+}
+
 module _ {D : Type 0} {g : Ghosts D} where
   -- one more drive has its shard
   pub filled : (shards shards' : List (Shard D g)) (shard : Shard D g) (all drives rest : List D) (x : D) → drives_in shards ++ drives ≡ all → drives ≡ x ∷ rest → shard.drive ≡ x → shards' ≡ shards ++ shard ∷ [] → drives_in shards' ++ rest ≡ all

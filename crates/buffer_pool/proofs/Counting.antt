@@ -11,7 +11,7 @@ use Rattle.heap_page.specs.declared.head.FileKind.{FileKind}
 use Rattle.std.specs.Prelude.{IfErr, OnOk}
 use Rattle.buffer_pool.specs.declared.place.Place.{Place}
 use Rattle.buffer_pool.specs.Fetched.{IsFetched, error_of}
-use Rattle.buffer_pool.specs.Counts.{LAST, Covers, IsCounted, IsFailure, count_of, next_count, up_to}
+use Rattle.buffer_pool.specs.Counts.{GoesOn, LAST, Covers, IsCounted, IsFailure, count_of, next_count, up_to}
 use Rattle.buffer_pool.specs.Used.{IsToldBad}
 
 -- a count that hasn't fallen still covers the counter
@@ -46,18 +46,19 @@ goes_on counter counter' (inl same) = ([], append-nil (up_to counter) ∙ ap up_
 goes_on counter counter' (inr more) = let next : suc counter ≡ counter' = omega arith in (suc counter ∷ [], ap up_to next)
 
 -- after a fetch the log begins with what it was
-pub log_begins : {A : Type 0} (r : Result A FetchErr) (before now counter counter' : ℕ) → counter ≤ LAST → OnOk r (counter' ≡ counter) → IfErr r (IsCounted before now counter counter') → IsPrefix (up_to counter) (up_to counter')
-log_begins (Ok found) before now counter counter' small ok err = goes_on counter counter' (inl ok)
-log_begins (Err (DriveFault d)) before now counter counter' small ok err = goes_on counter counter' (subst (λ n. (n ≡ counter) ⊎ (n ≡ counter + 1)) (sym err.2) (next_is counter small))
-log_begins (Err (BadPage bad)) before now counter counter' small ok err = goes_on counter counter' (inl err)
-log_begins (Err NoMemory) before now counter counter' small ok err = goes_on counter counter' (inl err)
+pub log_begins : (before counter counter' : ℕ) → before ≡ counter → GoesOn counter counter' → IsPrefix (up_to before) (up_to counter')
+log_begins before counter counter' same h = subst (λ n. IsPrefix (up_to n) (up_to counter')) (sym same) (goes_on counter counter' h)
 
 -- and it is no shorter
-pub no_less : {A : Type 0} (r : Result A FetchErr) (before now seen counter counter' : ℕ) → counter ≤ LAST → seen ≤ counter → OnOk r (counter' ≡ counter) → IfErr r (IsCounted before now counter counter') → seen ≤ counter'
-no_less (Ok found) before now seen counter counter' small less ok err = omega arith
-no_less (Err (DriveFault d)) before now seen counter counter' small less ok err = let next = err.2 in omega arith
-no_less (Err (BadPage bad)) before now seen counter counter' small less ok err = omega arith
-no_less (Err NoMemory) before now seen counter counter' small less ok err = omega arith
+pub no_less : (seen counter counter' : ℕ) → seen ≤ counter → GoesOn counter counter' → seen ≤ counter'
+no_less seen counter counter' less (inl same) = omega (arith, less, same)
+no_less seen counter counter' less (inr more) = omega (arith, less, more)
+
+-- an error leaves the counter, or raises it by one
+pub error_goes_on : (before now counter counter' : ℕ) (e : FetchErr) → counter ≤ LAST → IsCounted before now counter counter' e → GoesOn counter counter'
+error_goes_on before now counter counter' (DriveFault d) small h = subst (λ n. GoesOn counter n) (sym h.2) (next_is counter small)
+error_goes_on before now counter counter' (BadPage bad) small h = inl h
+error_goes_on before now counter counter' NoMemory small h = inl h
 
 -- the count of what was seen
 count_is : (n : ℕ) → ((n < LAST) × (count_of n ≡ n)) ⊎ ((LAST ≤ n) × (count_of n ≡ 18446744073709551615))

@@ -3,6 +3,7 @@ pub mod Cached
 pub mod Counting
 pub mod Fetching
 pub mod Fitting
+pub mod Imaged
 pub mod Lists
 pub mod Pairs
 pub mod Sharing

@@ -1,5 +1,5 @@
 -- A pool that threads share.
-use Rattle.std.proofs.Common.{◌≡◌, ◌≢◌, ℕ, ◌+◌, ◌<◌, ◌≤◌, max, List, [], ◌∷◌, ◌++◌, length, Option, Some, None, Result, refl, sym, ap, subst, ◌∙◌, arith, append_assoc, append-nil}
+use Rattle.std.proofs.Common.{◌≡◌, ◌≢◌, ℕ, zero, suc, ◌+◌, ◌<◌, ◌≤◌, max, List, [], ◌∷◌, ◌++◌, length, Option, Some, None, Result, refl, sym, ap, subst, ◌∙◌, arith, append_assoc, append-nil}
 use mathlib.Core.Logic.{dite}
 use native.Mathlib.Decide.{ℕ_discrete}
 use Rattle.std.specs.Prelude.{IfOk, IfErr, option_map, slice_get}
@@ -8,7 +8,6 @@ use Rattle.std.specs.Option.{option_map_or}
 use Rattle.std.specs.Arc.{arc_value}
 use Rattle.std.specs.declared.sync.Arc.{Arc}
 use Rattle.std.specs.declared.alloc.Global.{Global}
-use Rattle.std.specs.declared.snapshot.Snapshot.{Snapshot}
 use Rattle.std.proofs.lemmas.List.Elements.{All-get_or, All-push}
 use Rattle.std.proofs.lemmas.Option.{get_or_from_slice_get, slice_get-map, slice_get_within}
 use Rattle.run_lock.specs.declared.lock.RunLock.{RunLock}
@@ -23,12 +22,13 @@ use Rattle.heap_page.specs.Sources.{FetchCause, IsGiven}
 use Rattle.heap_page.specs.Stores.{AreRead, IsRead}
 use Rattle.buffer_pool.specs.Fetched.{IsFetched}
 use Rattle.buffer_pool.specs.Images.{image_on}
-use Rattle.buffer_pool.specs.Locks.{Each, lock_drive, lock_drives}
+use Rattle.buffer_pool.specs.Locks.{CoversSeen, Each, drives_seen, lock_drive, lock_drives}
 use Rattle.buffer_pool.specs.Places.{IsPlaced}
 use Rattle.buffer_pool.specs.Seats.{seen_in}
 use Rattle.buffer_pool.specs.declared.place.Place.{Place}
+use Rattle.buffer_pool.specs.declared.named.ShardName.{ShardName}
 use Rattle.buffer_pool.specs.declared.shard.Shard.{Shard}
-use Rattle.buffer_pool.specs.Counts.{up_to}
+use Rattle.buffer_pool.specs.Counts.{Covers, up_to}
 use Rattle.buffer_pool.proofs.Counting.{length-up_to}
 use Rattle.buffer_pool.proofs.Lists.{item_at}
 use Rattle.buffer_pool.proofs.Fetching.{caused, given}
@@ -70,40 +70,69 @@ handed_back g named unlocked first rest back drives drive e f same none =
 
 module _ {F D E : Type 0} where
   -- one more lock is open
-  pub unlocked_more : (all done : List D) (locks rest : List (RunLock F (Snapshot D) E)) (lock : RunLock F (Snapshot D) E) → all ≡ done ++ lock_drives locks → locks ≡ lock ∷ rest → all ≡ (done ++ lock_drive lock ∷ []) ++ lock_drives rest
+  pub unlocked_more : (all done : List D) (locks rest : List (RunLock F (ShardName D) E)) (lock : RunLock F (ShardName D) E) → all ≡ done ++ lock_drives locks → locks ≡ lock ∷ rest → all ≡ (done ++ lock_drive lock ∷ []) ++ lock_drives rest
   unlocked_more all done locks rest lock same first = same ∙ ap (λ ls. done ++ lock_drives ls) first ∙ sym (append_assoc done (lock_drive lock ∷ []) (lock_drives rest))
 
   -- all are
-  pub unlocked_all : (all done : List D) (locks : List (RunLock F (Snapshot D) E)) → all ≡ done ++ lock_drives locks → locks ≡ [] → all ≡ done
+  pub unlocked_all : (all done : List D) (locks : List (RunLock F (ShardName D) E)) → all ≡ done ++ lock_drives locks → locks ≡ [] → all ≡ done
   unlocked_all all done locks same none = same ∙ ap (λ ls. done ++ lock_drives ls) none ∙ append-nil done
+
+  seen_first : (locks : List (RunLock F (ShardName D) E)) (passes : List (Pass F (ShardName D) E)) (lock : RunLock F (ShardName D) E) (rest : List (RunLock F (ShardName D) E)) (pass : Pass F (ShardName D) E) (others : List (Pass F (ShardName D) E)) →
+      locks ≡ lock ∷ rest → passes ≡ pass ∷ others → drives_seen locks passes ≡ (lock_drive lock, seen_of pass) ∷ drives_seen rest others
+  seen_first locks passes lock rest pass others e f = λ i. drives_seen (e i) (f i)
+
+  pub seen_more_unlocked : (all done : List (D × ℕ)) (locks rest : List (RunLock F (ShardName D) E)) (passes others : List (Pass F (ShardName D) E)) (lock : RunLock F (ShardName D) E) (pass : Pass F (ShardName D) E) → all ≡ done ++ drives_seen locks passes → locks ≡ lock ∷ rest → passes ≡ pass ∷ others →
+      all ≡ (done ++ (lock_drive lock, seen_of pass) ∷ []) ++ drives_seen rest others
+  seen_more_unlocked all done locks rest passes others lock pass same first second =
+      same ∙ ap (λ ls. done ++ ls) (seen_first locks passes lock rest pass others first second) ∙ sym (append_assoc done ((lock_drive lock, seen_of pass) ∷ []) (drives_seen rest others))
+
+  pub seen_all_unlocked : (all done : List (D × ℕ)) (locks : List (RunLock F (ShardName D) E)) (passes : List (Pass F (ShardName D) E)) → all ≡ done ++ drives_seen locks passes → locks ≡ [] → all ≡ done
+  seen_all_unlocked all done locks passes same none = same ∙ ap (λ ls. done ++ drives_seen ls passes) none ∙ append-nil done
+
+  seen_get : (locks : List (RunLock F (ShardName D) E)) (passes : List (Pass F (ShardName D) E)) (d : ℕ) (named : D) → length passes ≡ length locks → slice_get (lock_drives locks) d ≡ Some named →
+      slice_get (drives_seen locks passes) d ≡ Some (named, option_map_or seen_of (slice_get passes d) 0)
+  seen_get [] passes d named len at = absurd cc
+  seen_get (l ∷ ls) [] d named len at = absurd (omega arith)
+  seen_get (l ∷ ls) (p ∷ ps) zero named len at = let same : lock_drive l ≡ named = cc in ap (λ (x : D). Some (x, seen_of p)) same
+  seen_get (l ∷ ls) (p ∷ ps) (suc d) named len at = seen_get ls ps d named (omega arith) at
+
+  -- what was seen of each drive that came back
+  pub covers_back : (g : Ghosts D) (locks : List (RunLock F (ShardName D) E)) (passes : List (Pass F (ShardName D) E)) (back : List D) → length passes ≡ length locks → Each (CoversSeen g) (drives_seen locks passes) back →
+      (d : ℕ) (named drive : D) → slice_get (lock_drives locks) d ≡ Some named → slice_get back d ≡ Some drive → Covers (g.faults named) (option_map_or seen_of (slice_get passes d) 0) (g.faults drive)
+  covers_back g locks passes back len each d named drive at here =
+      each_at (CoversSeen g) (drives_seen locks passes) back each d (named, option_map_or seen_of (slice_get passes d) 0) drive (seen_get locks passes d named len at) here
+
+-- a count that covers a counter covers what was seen of it
+pub covers_less : (named seen counter count : ℕ) → seen ≤ counter → Covers named counter count → Covers named seen count
+covers_less named seen counter count less covers = omega arith
 
 module _ {D : Type 0} {g : Ghosts D} where
   -- passes that have seen nothing
-  pub none_seen : (passes : List (Pass (Shard D g) (Snapshot D) ℕ)) → All (λ (p : Pass (Shard D g) (Snapshot D) ℕ). seen_of p ≡ 0) passes → (d : ℕ) → seen_in passes d ≡ 0
+  pub none_seen : (passes : List (Pass (Shard D g) (ShardName D) ℕ)) → All (λ (p : Pass (Shard D g) (ShardName D) ℕ). seen_of p ≡ 0) passes → (d : ℕ) → seen_in passes d ≡ 0
   none_seen passes all d = by (slice_get passes d) refl where
-    by : (o : Option (Pass (Shard D g) (Snapshot D) ℕ)) → slice_get passes d ≡ o → option_map_or seen_of o 0 ≡ 0
+    by : (o : Option (Pass (Shard D g) (ShardName D) ℕ)) → slice_get passes d ≡ o → option_map_or seen_of o 0 ≡ 0
     by None e = refl
-    by (Some p) e = ap seen_of (sym (get_or_from_slice_get passes d p p e)) ∙ All-get_or (λ (p : Pass (Shard D g) (Snapshot D) ℕ). seen_of p ≡ 0) passes d p (slice_get_within passes d p e) all
+    by (Some p) e = ap seen_of (sym (get_or_from_slice_get passes d p p e)) ∙ All-get_or (λ (p : Pass (Shard D g) (ShardName D) ℕ). seen_of p ≡ 0) passes d p (slice_get_within passes d p e) all
 
-  pub seen_here : (passes : List (Pass (Shard D g) (Snapshot D) ℕ)) (d : ℕ) (p : Pass (Shard D g) (Snapshot D) ℕ) → slice_get passes d ≡ Some p → seen_in passes d ≡ seen_of p
-  seen_here passes d p e = ap (λ (o : Option (Pass (Shard D g) (Snapshot D) ℕ)). option_map_or seen_of o 0) e
+  pub seen_here : (passes : List (Pass (Shard D g) (ShardName D) ℕ)) (d : ℕ) (p : Pass (Shard D g) (ShardName D) ℕ) → slice_get passes d ≡ Some p → seen_in passes d ≡ seen_of p
+  seen_here passes d p e = ap (λ (o : Option (Pass (Shard D g) (ShardName D) ℕ)). option_map_or seen_of o 0) e
 
   -- a pass of a new shard has seen nothing
-  pub seen_more : (passes passes' : List (Pass (Shard D g) (Snapshot D) ℕ)) (pass : Pass (Shard D g) (Snapshot D) ℕ) (counter : ℕ) → All (λ (p : Pass (Shard D g) (Snapshot D) ℕ). seen_of p ≡ 0) passes → seen_of pass ≡ length (up_to counter) → counter ≡ 0 → passes' ≡ passes ++ pass ∷ [] →
-      All (λ (p : Pass (Shard D g) (Snapshot D) ℕ). seen_of p ≡ 0) passes'
+  pub seen_more : (passes passes' : List (Pass (Shard D g) (ShardName D) ℕ)) (pass : Pass (Shard D g) (ShardName D) ℕ) (counter : ℕ) → All (λ (p : Pass (Shard D g) (ShardName D) ℕ). seen_of p ≡ 0) passes → seen_of pass ≡ length (up_to counter) → counter ≡ 0 → passes' ≡ passes ++ pass ∷ [] →
+      All (λ (p : Pass (Shard D g) (ShardName D) ℕ). seen_of p ≡ 0) passes'
   seen_more passes passes' pass counter all seen none more =
-      subst (All (λ (p : Pass (Shard D g) (Snapshot D) ℕ). seen_of p ≡ 0)) (sym more) (All-push (λ (p : Pass (Shard D g) (Snapshot D) ℕ). seen_of p ≡ 0) passes pass all (seen ∙ length-up_to counter ∙ none))
+      subst (All (λ (p : Pass (Shard D g) (ShardName D) ℕ). seen_of p ≡ 0)) (sym more) (All-push (λ (p : Pass (Shard D g) (ShardName D) ℕ). seen_of p ≡ 0) passes pass all (seen ∙ length-up_to counter ∙ none))
 
   -- passes that have seen as much, one by one
-  pub seen_same : (passes olds : List (Pass (Shard D g) (Snapshot D) ℕ)) → length passes ≡ length olds → ((d : ℕ) (p : Pass (Shard D g) (Snapshot D) ℕ) → slice_get passes d ≡ Some p → seen_of p ≡ seen_in olds d) → (d : ℕ) → seen_in passes d ≡ seen_in olds d
+  pub seen_same : (passes olds : List (Pass (Shard D g) (ShardName D) ℕ)) → length passes ≡ length olds → ((d : ℕ) (p : Pass (Shard D g) (ShardName D) ℕ) → slice_get passes d ≡ Some p → seen_of p ≡ seen_in olds d) → (d : ℕ) → seen_in passes d ≡ seen_in olds d
   seen_same passes olds len same d = by (slice_get passes d) (slice_get olds d) refl refl where
-    by : (o n : Option (Pass (Shard D g) (Snapshot D) ℕ)) → slice_get passes d ≡ o → slice_get olds d ≡ n → option_map_or seen_of o 0 ≡ option_map_or seen_of n 0
+    by : (o n : Option (Pass (Shard D g) (ShardName D) ℕ)) → slice_get passes d ≡ o → slice_get olds d ≡ n → option_map_or seen_of o 0 ≡ option_map_or seen_of n 0
     by None None at was = refl
     by None (Some q) at was = let is = item_at passes d (omega (arith, slice_get_within olds d q was, len)) in absurd (none_is is.0 (sym at ∙ is.1))
-    by (Some p) n at was = same d p at ∙ ap (λ (x : Option (Pass (Shard D g) (Snapshot D) ℕ)). option_map_or seen_of x 0) was
+    by (Some p) n at was = same d p at ∙ ap (λ (x : Option (Pass (Shard D g) (ShardName D) ℕ)). option_map_or seen_of x 0) was
 
   -- what a shared pool answers
-  pub answered : (files : FileMap) (locks : List (RunLock (Shard D g) (Snapshot D) ℕ)) (lock : RunLock (Shard D g) (Snapshot D) ℕ) (file page : ℕ) (place : Place) (before now : ℕ → ℕ) (b n : ℕ) (r : Result (Arc Page Global) FetchErr) →
+  pub answered : (files : FileMap) (locks : List (RunLock (Shard D g) (ShardName D) ℕ)) (lock : RunLock (Shard D g) (ShardName D) ℕ) (file page : ℕ) (place : Place) (before now : ℕ → ℕ) (b n : ℕ) (r : Result (Arc Page Global) FetchErr) →
       IsPlaced files file page place → HasPage files.files.items file page → slice_get locks place.drive ≡ Some lock →
       b ≡ before place.drive → n ≡ now place.drive → IsFetched (g.pages (lock_drive lock)) place file page b n r →
       IfOk r (λ found. IsGiven files.files.items (image_on g files (lock_drives locks)) file page (arc_value found))

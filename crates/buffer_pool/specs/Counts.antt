@@ -1,5 +1,5 @@
 -- How a shard counts the reads that failed.
-use Rattle.std.specs.Prelude.{◌≡◌, ℕ, zero, suc, ◌+◌, ◌≤◌, min, nat_le, if◌then◌else◌, List, [], ◌∷◌, ◌++◌}
+use Rattle.std.specs.Prelude.{◌≡◌, ℕ, zero, suc, ◌+◌, ◌≤◌, min, nat_le, if◌then◌else◌, List, [], ◌∷◌, ◌++◌, ◌⊎◌}
 use Rattle.xp_outside.specs.Outside.{Rose}
 use Rattle.heap_page.specs.declared.errors.FetchErr.{FetchErr}
 use Rattle.heap_page.specs.declared.errors.FetchErr.TheVariants.{DriveFault, BadPage, NoMemory}
@@ -20,6 +20,10 @@ Covers named counter count = min (named + counter) 18446744073709551615 ≤ coun
 abbrev pub up_to : ℕ → List ℕ
 up_to zero = []
 up_to (suc n) = up_to n ++ suc n ∷ []
+
+-- the counter stays, or goes on by one
+abbrev pub GoesOn : ℕ → ℕ → Type 0
+GoesOn counter counter_now = (counter_now ≡ counter) ⊎ (counter_now ≡ counter + 1)
 
 -- why a read gave no page: it failed, and was counted, or there was no memory for it
 abbrev pub IsFailure : ℕ → ℕ → ℕ → ℕ → FetchErr → Type 0

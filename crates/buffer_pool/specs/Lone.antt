@@ -1,16 +1,21 @@
 -- A pool that one caller has.
-use Rattle.std.specs.Prelude.{◌≡◌, ◌≢◌, ℕ, ◌/◌, max, List, [], length, map, slice_get, Some}
+use Rattle.std.specs.Prelude.{◌≡◌, ◌≢◌, ℕ, ◌/◌, max, List, [], length, map, nat_eq, slice_get, Some, IfOk, IfSome, OnErr, Result}
 use Rattle.std.specs.List.{All}
 use Rattle.std.specs.Option.{option_map_or}
+use Rattle.std.specs.Arc.{arc_value}
+use Rattle.std.specs.Map.{lookup}
 use Rattle.lru.specs.LruCache.{LruCache, lru_cache}
 use Rattle.std.specs.declared.sync.Arc.{Arc}
 use Rattle.std.specs.declared.alloc.Global.{Global}
+use Rattle.heap_page.specs.declared.errors.FetchErr.{FetchErr}
 use Rattle.heap_page.specs.declared.page.Page.{Page}
 use Rattle.xp_outside.specs.declared.drive.Drive.{Ghosts}
 use Rattle.heap_page.specs.declared.map.FileMap.{FileMap}
 use Rattle.heap_page.specs.Maps.{IsMap}
 use Rattle.heap_page.specs.Stores.{HaveRoom, IsRead}
 use Rattle.buffer_pool.specs.Shards.{Fits}
+use Rattle.buffer_pool.specs.Used.{IsAnswer, IsUsed}
+use Rattle.buffer_pool.specs.declared.place.Place.{Place}
 use Rattle.buffer_pool.specs.declared.mounted.Mounted.{Mounted}
 use Rattle.buffer_pool.specs.declared.shard.Shard.{Shard}
 
@@ -51,6 +56,17 @@ module _ {D : Type 0} {g : Ghosts D} where
   pub record IsOn (old new : Shard D g) : Type 0 where
     pub drive : IsRead g old.drive new.drive
     pub fits : (named : D) → Fits named old → Fits named new
+
+  -- What a fetch at a place answers and keeps. A cached page is the answer, and no drive is called. After an Ok the page is the one used
+  -- last, and after an error the same pages are cached.
+  pub record IsTurn (place : Place) (file page : ℕ) (old new : Shard D g) (result : Result (Arc Page Global) FetchErr) : Type 0 where
+    pub hit : IfSome (lookup (nat_eq place.address) old.cache.entries) (λ cached. (new.drive ≡ old.drive) × IsAnswer place.kind file page (arc_value cached) result)
+    pub used : IfOk result (λ found. IsUsed place.address (arc_value found) old.cache new.cache)
+    pub kept : OnErr result (new.cache ≡ old.cache)
+
+  -- that of the place's drive
+  abbrev pub IsTurnAt : Place → ℕ → ℕ → List (Shard D g) → List (Shard D g) → Result (Arc Page Global) FetchErr → Type 0
+  IsTurnAt place file page old new result = (was is : Shard D g) → slice_get old place.drive ≡ Some was → slice_get new place.drive ≡ Some is → IsTurn place file page was is result
 
   -- one shard was called, and the others stay
   pub record AreOn (d : ℕ) (old new : List (Shard D g)) : Type 0 where

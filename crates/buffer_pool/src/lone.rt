@@ -1,17 +1,22 @@
 //! A pool for one caller, who waits for nobody.
-ghost use Rattle.std.specs.Prelude.{◌≡◌, ◌<◌, ◌≤◌, ℕ, [], Some, IfOk, IfErr, length, slice_get, vec_len, vec_capacity};
+ghost use Rattle.std.specs.Prelude.{◌≡◌, ◌≢◌, ◌<◌, ◌≤◌, ℕ, [], Some, IfOk, IfErr, length, slice_get, vec_len, vec_capacity};
 ghost use Rattle.std.specs.List.{All};
-ghost use Rattle.heap_page.specs.Maps.{IsMap};
+ghost use Rattle.std.specs.Arc.{arc_value};
+ghost use Rattle.heap_page.specs.Maps.{HasPage, IsMap, drive_of};
+ghost use Rattle.heap_page.specs.Sources.{FetchCause, IsGiven};
 ghost use Rattle.heap_page.specs.Stores.{AreRead, HaveRoom};
 ghost use Rattle.buffer_pool.specs.Fetched.{IsFetched};
 ghost use Rattle.buffer_pool.specs.Images.{image_on};
-ghost use Rattle.buffer_pool.specs.Lone.{AreNew, AreOn, AreShards, IsEmptyCache, IsOn, count_at, drives_in, drives_of, frames_of, map_of};
+ghost use Rattle.buffer_pool.specs.Lone.{AreNew, AreOn, AreShards, IsEmptyCache, IsTurnAt, count_at, drives_in, drives_of, frames_of, map_of};
+ghost use Rattle.buffer_pool.specs.Places.{IsPlaced};
 ghost use Rattle.buffer_pool.specs.Shards.{Fits};
+ghost use Rattle.buffer_pool.specs.declared.place.Place.{Place};
 
 use crate::cache::{Cache, caches};
 use crate::mounted::{Mounted, copy_map, reserved};
-use crate::place::{Place, of_drive, place_of};
+use crate::place::{Place, place_of};
 use crate::shard::Shard;
+use crate::turn::fetch_at;
 use heap_page::{FetchErr, FileMap, Page, PageSource};
 use std::alloc::Global;
 use std::snapshot::Snapshot;
@@ -61,24 +66,6 @@ fn unload<D: Drive>(mut shards: Vec<Shard<D>>, mut room: Vec<D>) -> Vec<D>
     room
 }
 
-// The page at a place, from the shard of its drive.
-fn fetch_at<D: Drive>(
-    alloc: Global,
-    shard: &mut Shard<D>,
-    place: Place,
-    file: u32,
-    page: u32,
-) -> Result<Arc<Page>, FetchErr>
-    requires { place.address < D.size shard.old.drive }
-    ensures on { IsOn shard.old shard.new }
-    ensures fetched { (named : D) → Fits named shard.old → IsFetched (D.pages named) place file page (D.faults shard.old.drive) (D.faults shard.new.drive) result }
-{
-    match shard.fetch(alloc, place.kind, file, page, place.address) {
-        Ok(found) => Ok(found),
-        Err(error) => Err(of_drive(error, place.drive)),
-    }
-}
-
 // The page at a place, from one of the shards.
 fn fetch_from<D: Drive>(
     alloc: Global,
@@ -90,6 +77,7 @@ fn fetch_from<D: Drive>(
     requires drive { place.drive < length shards.old }
     requires within { (shard : _) → slice_get shards.old place.drive ≡ Some shard → place.address < D.size shard.drive }
     ensures on { AreOn place.drive shards.old shards.new }
+    ensures turn { IsTurnAt place file page shards.old shards.new result }
     ensures fetched { (named : D) (shard : _) → slice_get shards.old place.drive ≡ Some shard → Fits named shard → IsFetched (D.pages named) place file page (count_at shards.old place.drive) (count_at shards.new place.drive) result }
 {
     let shard = &mut shards[place.drive as usize];
@@ -165,7 +153,21 @@ impl<D: Drive> PageSource for LonePool<D> {
 
     ghost faults = { λ pool d. count_at pool.shards.items d };
 
-    fn fetch(&mut self, alloc: Global, file: u32, page: u32) -> Result<Arc<Page>, FetchErr> {
+    /// The page, as for every source. A page that the pool has calls no drive and is the answer, where its head breaks
+    /// no rule. After an Ok it is the page used last of its drive; after an error the same pages are cached.
+    fn fetch(&mut self, alloc: Global, file: u32, page: u32) -> Result<Arc<Page>, FetchErr>
+        requires { HasPage (map_of self.old.mounted).files.items file page }
+
+        // As every source.
+        ensures whole { self.new.mounted ≡ self.old.mounted }
+        ensures counts { (d : ℕ) → count_at self.old.shards.items d ≤ count_at self.new.shards.items d }
+        ensures ok { IfOk result (λ found. IsGiven (map_of self.old.mounted).files.items (image_on D.Drive (map_of self.old.mounted) (drives_of self.old.mounted)) file page (arc_value found)) }
+        ensures err { IfErr result (FetchCause (map_of self.old.mounted).files.items (image_on D.Drive (map_of self.old.mounted) (drives_of self.old.mounted)) (map_of self.old.mounted).drives (count_at self.old.shards.items) (count_at self.new.shards.items) file page) }
+
+        // The shard of the page's drive before and after, and the others.
+        ensures turn { (place : Place) → IsPlaced (map_of self.old.mounted) file page place → IsTurnAt place file page self.old.shards.items self.new.shards.items result }
+        ensures others { (d : ℕ) → d ≢ drive_of (map_of self.old.mounted) page → slice_get self.new.shards.items d ≡ slice_get self.old.shards.items d }
+    {
         let place = place_of(&self.mounted.map, file, page);
         fetch_from(alloc, &mut self.shards, place, file, page)
     }

@@ -2,10 +2,12 @@
 ghost use Rattle.std.specs.Prelude.{◌≡◌, ◌≤◌, ◌<◌, ◌+◌, ◌++◌, ◌∷◌, [], List, All, IfOk, IfErr, OnOk, OnErr, vec_len, vec_capacity};
 ghost use Rattle.run_lock.specs.Passes.{IsFree, seen_of};
 ghost use Rattle.heap_page.specs.Stores.{IsRead};
-ghost use Rattle.buffer_pool.specs.Locks.{Each, lock_drive, lock_drives};
+ghost use Rattle.buffer_pool.specs.Locks.{CoversSeen, Each, KeepFrames, drives_seen, lock_drive, lock_drives};
+ghost use Rattle.buffer_pool.specs.Lone.{IsEmptyCache};
 
 use crate::cache::Cache;
 use crate::mounted::reserved;
+use crate::named::ShardName;
 use crate::shard::Shard;
 use run_lock::{Pass, RunLock};
 use std::alloc::Global;
@@ -36,19 +38,23 @@ impl<D: Drive> Opening<D> {
     }
 
     // Makes the lock of one more drive. Where there is no memory the drive comes back.
-    fn lock(&mut self, alloc: Global, drive: D, cache: Cache) -> Result<(), D>
-        requires cache { cache.entries ≡ [] }
+    fn lock(&mut self, alloc: Global, drive: D, cache: Cache, frames: u32) -> Result<(), D>
+        requires cache { IsEmptyCache frames cache }
         requires locks { vec_len self.old.locks < vec_capacity self.old.locks }
         requires passes { vec_len self.old.passes < vec_capacity self.old.passes }
         ensures room { (self.new.room ≡ self.old.room) × (vec_capacity self.new.locks ≡ vec_capacity self.old.locks) × (vec_capacity self.new.passes ≡ vec_capacity self.old.passes) }
         ensures pairs { Each IsFree self.old.locks.items self.old.passes.items → Each IsFree self.new.locks.items self.new.passes.items }
         ensures drives { OnOk result (lock_drives self.new.locks.items ≡ lock_drives self.old.locks.items ++ drive ∷ []) }
+        ensures frames { KeepFrames frames self.old.locks.items → KeepFrames frames self.new.locks.items }
         ensures len { OnOk result ((vec_len self.new.locks ≡ vec_len self.old.locks + 1) × (vec_len self.new.passes ≡ vec_len self.old.passes + 1)) }
         ensures seen { All (λ pass. seen_of pass ≡ 0) self.old.passes.items → All (λ pass. seen_of pass ≡ 0) self.new.passes.items }
         ensures same { OnErr result ((self.new.locks ≡ self.old.locks) × (self.new.passes ≡ self.old.passes)) }
         ensures err { IfErr result (λ back. back ≡ drive) }
     {
-        let name = Snapshot::of(&drive);
+        let name = ShardName {
+            drive: Snapshot::of(&drive),
+            frames,
+        };
         match RunLock::new(alloc, name, Shard::with_cache(drive, cache)) {
             Ok((lock, pass)) => {
                 self.locks.push_reserved(lock);
@@ -60,19 +66,21 @@ impl<D: Drive> Opening<D> {
     }
 }
 
-// Makes a lock for each drive. Where there is no memory the drives come back.
+// Makes a lock for each drive, whose shard can keep so many pages. Where there is no memory the drives come back.
 pub(crate) fn lock_all<D: Drive, R: Wait>(
     rt: &R,
     alloc: Global,
     mut drives: Vec<D>,
     mut caches: Vec<Cache>,
+    frames: u32,
     mut opening: Opening<D>,
 ) -> Result<Opening<D>, Vec<D>>
     requires caches { vec_len caches ≡ vec_len drives }
-    requires new { All (λ cache. cache.entries ≡ []) caches.items }
+    requires new { All (IsEmptyCache frames) caches.items }
     requires empty { (opening.locks.items ≡ []) × (opening.passes.items ≡ []) × (opening.room.items ≡ []) }
     requires room { (vec_len drives ≤ vec_capacity opening.locks) × (vec_len drives ≤ vec_capacity opening.passes) × (vec_len drives ≤ vec_capacity opening.room) }
     ensures drives { IfOk result (λ o. lock_drives o.locks.items ≡ drives.items) }
+    ensures frames { IfOk result (λ o. KeepFrames frames o.locks.items) }
     ensures pairs { IfOk result (λ o. Each IsFree o.locks.items o.passes.items) }
     ensures seen { IfOk result (λ o. All (λ pass. seen_of pass ≡ 0) o.passes.items) }
     ensures room { IfOk result (λ o. (vec_len o.locks ≤ vec_capacity o.room) × (o.room.items ≡ [])) }
@@ -82,7 +90,7 @@ pub(crate) fn lock_all<D: Drive, R: Wait>(
         let Some(cache) = caches.pop() else {
             unreachable!()
         };
-        if let Err(drive) = opening.lock(alloc, drives.remove(0), cache) {
+        if let Err(drive) = opening.lock(alloc, drives.remove(0), cache, frames) {
             return Err(hand_back(rt, opening, drive, drives));
         }
     }
@@ -122,6 +130,7 @@ pub(crate) fn unlock_all<D: Drive, R: Wait>(
     ensures capacity { vec_capacity result ≡ vec_capacity room }
     ensures len { vec_len result ≡ vec_len locks }
     ensures drives { Each (IsRead D.Drive) (lock_drives locks.items) result.items }
+    ensures seen { Each (CoversSeen D.Drive) (drives_seen locks.items passes.items) result.items }
 {
     'each: while !locks.is_empty() {
         let lock = locks.remove(0);

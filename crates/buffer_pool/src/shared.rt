@@ -1,9 +1,11 @@
 //! A pool that threads share.
-ghost use Rattle.std.specs.Prelude.{◌≡◌, ◌≤◌, ℕ, [], IfOk, IfErr, vec_len, vec_capacity};
+ghost use Rattle.std.specs.Prelude.{◌≡◌, ◌≤◌, ℕ, [], Some, IfOk, IfErr, slice_get, vec_len, vec_capacity};
 ghost use Rattle.heap_page.specs.Maps.{IsMap};
 ghost use Rattle.heap_page.specs.Stores.{AreRead, HaveRoom};
+ghost use Rattle.buffer_pool.specs.Counts.{Covers};
 ghost use Rattle.buffer_pool.specs.Images.{image_on};
 ghost use Rattle.buffer_pool.specs.Locks.{AreLocks};
+ghost use Rattle.buffer_pool.specs.Lone.{frames_of};
 
 use crate::cache::caches;
 use crate::mounted::copy_map;
@@ -26,7 +28,7 @@ pub struct SharedPool<D: Drive> {
 }
 
 impl<D: Drive> SharedPool<D> {
-    ghost use Rattle.buffer_pool.specs.Seats.{IsSeatOf, pool_drives, pool_map, seen_at};
+    ghost use Rattle.buffer_pool.specs.Seats.{IsSeatOf, KeepsFrames, pool_drives, pool_map, seen_at};
 
     /// A pool of the drives, one for each drive of the map, for the map's files, and the first seat at it. Each drive's
     /// shard keeps as many pages as its share of `frames`, and at least one. An `Err` is want of memory, and hands the
@@ -46,18 +48,20 @@ impl<D: Drive> SharedPool<D> {
         ensures drives { IfOk result (λ made. pool_drives made.0 ≡ drives.items) }
         ensures files { IfOk result (λ made. ((pool_map made.0).files.items ≡ map.now.files.items) × ((pool_map made.0).drives ≡ map.now.drives)) }
         ensures image { IfOk result (λ made. image_on D.Drive (pool_map made.0) (pool_drives made.0) ≡ image_on D.Drive map.now drives.items) }
+        ensures frames { IfOk result (λ made. KeepsFrames (frames_of frames map.now.drives) made.0) }
         ensures err { IfErr result (λ back. AreRead D.Drive drives.items back.items) }
     {
         let Ok(copy) = copy_map(alloc, map) else {
             return Err(drives);
         };
-        let Ok(caches) = caches(alloc, map.drives, (frames / map.drives).max(1)) else {
+        let frames = (frames / map.drives).max(1);
+        let Ok(caches) = caches(alloc, map.drives, frames) else {
             return Err(drives);
         };
         let Ok(opening) = Opening::new(alloc, drives.len()) else {
             return Err(drives);
         };
-        match lock_all(rt, alloc, drives, caches, opening) {
+        match lock_all(rt, alloc, drives, caches, frames, opening) {
             Ok(
                 Opening {
                     locks,
@@ -76,11 +80,13 @@ impl<D: Drive> SharedPool<D> {
         }
     }
 
-    /// Ends the pool. The drives come in order. Each has the number of pages that it had when the pool was made, tells
-    /// what it told then, or nothing where it told nothing, and its count hasn't fallen. It may wait.
+    /// Ends the pool. The drives come in order. Each has the number of pages that it had when the pool was made, tells what
+    /// it told then, or nothing where it told nothing, and its count hasn't fallen. Each failed read of a drive that the seat
+    /// has seen is one of its count. It may wait.
     pub fn close<R: Wait>(self, rt: &R, seat: PoolSeat<D>) -> Vec<D>
         requires { IsSeatOf self seat }
-        ensures { AreRead D.Drive (pool_drives self) result.items }
+        ensures read { AreRead D.Drive (pool_drives self) result.items }
+        ensures seen { (d : ℕ) (named drive : D) → slice_get (pool_drives self) d ≡ Some named → slice_get result.items d ≡ Some drive → Covers (D.faults named) (seen_at seat d) (D.faults drive) }
     {
         let SharedPool {
             locks,

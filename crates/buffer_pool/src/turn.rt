@@ -1,9 +1,11 @@
 //! One turn on a shard.
-ghost use Rattle.std.specs.Prelude.{◌<◌, ◌≤◌};
+ghost use Rattle.std.specs.Prelude.{◌≡◌, ◌<◌, ◌≤◌, ℕ};
 ghost use Rattle.run_lock.specs.Passes.{IsFree, IsSamePass, seen_of};
-ghost use Rattle.buffer_pool.specs.Counts.{count_of};
+ghost use Rattle.buffer_pool.specs.Counts.{GoesOn, count_of};
 ghost use Rattle.buffer_pool.specs.Fetched.{IsFetched};
 ghost use Rattle.buffer_pool.specs.Locks.{lock_drive};
+ghost use Rattle.buffer_pool.specs.Lone.{IsOn, IsTurn};
+ghost use Rattle.buffer_pool.specs.Shards.{Fits};
 
 use crate::place::{Place, of_drive};
 use crate::shard::Shard;
@@ -12,6 +14,28 @@ use run_lock::{Pass, RunLock};
 use std::alloc::Global;
 use std::sync::{Arc, Wait};
 use xp_outside::Drive;
+
+// The page at a place, from the shard of its drive.
+pub(crate) fn fetch_at<D: Drive>(
+    alloc: Global,
+    shard: &mut Shard<D>,
+    place: Place,
+    file: u32,
+    page: u32,
+) -> Result<Arc<Page>, FetchErr>
+    requires { place.address < D.size shard.old.drive }
+    ensures on { IsOn shard.old shard.new }
+    ensures turn { IsTurn place file page shard.old shard.new result }
+    ensures fetched { (named : D) → Fits named shard.old → IsFetched (D.pages named) place file page (D.faults shard.old.drive) (D.faults shard.new.drive) result }
+    ensures frames { shard.new.cache.cap ≡ shard.old.cache.cap }
+    ensures counter { GoesOn shard.old.counter shard.new.counter }
+    ensures seen { (named : D) (seen : ℕ) → Fits named shard.old → seen ≤ shard.old.counter → IsFetched (D.pages named) place file page (count_of seen) (count_of shard.new.counter) result }
+{
+    match shard.fetch(alloc, place.kind, file, page, place.address) {
+        Ok(found) => Ok(found),
+        Err(error) => Err(of_drive(error, place.drive)),
+    }
+}
 
 // The page at a place, under the lock of the drive's shard. It is a drive's fault only where the pass has then seen a
 // counter that rose.
@@ -32,12 +56,7 @@ pub(crate) fn fetch_in_turn<D: Drive, R: Wait>(
     ensures fetched { IsFetched (D.pages (lock_drive lock.now)) place file page (count_of (seen_of pass.old)) (count_of (seen_of pass.new)) result }
 {
     let mut held = lock.take(rt, pass);
-    let answer = held
-        .value()
-        .fetch(alloc, place.kind, file, page, place.address);
+    let answer = fetch_at(alloc, held.value(), place, file, page);
     lock.put(pass, held);
-    match answer {
-        Ok(found) => Ok(found),
-        Err(error) => Err(of_drive(error, place.drive)),
-    }
+    answer
 }

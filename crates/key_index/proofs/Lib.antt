@@ -10,6 +10,7 @@ mod Written
 mod Made
 mod Indexed
 mod Nodes
+mod Passing
 mod Searches
 mod Fronts
 mod Narrowings

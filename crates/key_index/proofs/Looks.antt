@@ -17,7 +17,7 @@ all_at P (y ∷ ys) zero x h e = let k : y ≡ x = cc in subst P k h.0
 all_at P (y ∷ ys) (suc i) x h e = all_at P ys i x h.1 e
 
 module _ (index : KeyIndex) (level number : ℕ) (aim : Aim) (bytes : List ℕ) (step : Step) (s : Scans index.key_type level number aim bytes step) where
-  pub used : Uses index level number aim bytes (seen_item step.entry)
+  pub used : Uses index level number (passes aim) bytes (seen_item step.entry)
   used = record {
     fine = s.fine;
     items = s.items;
@@ -39,7 +39,7 @@ module _ (index : KeyIndex) (level number : ℕ) (aim : Aim) (bytes : List ℕ) 
     pub count_told : IsFront (passes aim) items → step.count ≡ count (passes aim) items
     count_told front = subst (λ (xs : List Item). step.count ≡ count (passes aim) xs) same (s.counts (subst (λ (xs : List Item). IsFront (passes aim) xs) (sym same) front))
 
-pub ranked : (index : KeyIndex) (number rank : ℕ) (aim : Aim) (bytes : List ℕ) (step : Step) → Scans index.key_type 0 number aim bytes step → rank ≡ number + step.count → Ranks index number aim bytes rank
+pub ranked : (index : KeyIndex) (number rank : ℕ) (aim : Aim) (bytes : List ℕ) (step : Step) → Scans index.key_type 0 number aim bytes step → rank ≡ number + step.count → Ranks index number (passes aim) bytes rank
 ranked index number rank aim bytes step s e = record {
   fine = s.fine;
   items = s.items;

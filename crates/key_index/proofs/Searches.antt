@@ -10,7 +10,9 @@ use Rattle.key_index.specs.Aims.{IsFront, chosen, count, first_of, passes}
 use Rattle.key_index.specs.Entries.{Item, items_from, items_of}
 use Rattle.key_index.specs.Files.{HoldsIndex}
 use Rattle.key_index.specs.Levels.{up}
-use Rattle.key_index.specs.Searches.{IsIndexPage, IsLeafFor, NotBad, SearchCause}
+use Rattle.key_index.specs.Paths.{IfBad, IsBadAbove, IsBadHere, IsFineHead, Reaches, ReachesLeaf}
+use Rattle.key_index.specs.Searches.{BreaksAbove, IsIndexPage, IsLeafFor, IsNext, NotBad, SearchCause}
+use Rattle.key_index.proofs.Passing.{at_leaf, at_root, one_down, stops_above}
 use Rattle.key_index.proofs.Descents.{IsIndex, page_at, block_at, down, top, rank_is, read_here, chosen_here, front_at_block}
 use Rattle.key_index.proofs.Levels.{few}
 use Rattle.key_index.proofs.Indexed.{indexed}
@@ -30,6 +32,8 @@ pub record Descent {W : Type 0} (image : W → Option (ℕ → ℕ → List ℕ)
   pub counts : (d : ℕ) → before d ≤ after d
   pub inside : page < index.pages
   pub pos : 0 < level
+  pub most : level ≤ index.height
+  pub way : (f : ℕ → ℕ → List ℕ) → image old ≡ Some f → Reaches index (f index.file) (passes aim) (index.height - level) (page, left)
   pub told : (f : ℕ → ℕ → List ℕ) (items : List Item) → image old ≡ Some f → (h : IsIndex index (f index.file) items) → IsFront (passes aim) items →
       (level ≤ length h.levels) × ((page ≡ page_at (passes aim) h.levels items (level - 1)) × (left ≡ (first_of (block_at (passes aim) h.levels items (level - 1))).left))
 
@@ -43,6 +47,8 @@ module _ {W : Type 0} (image : W → Option (ℕ → ℕ → List ℕ)) (index :
     counts = λ d. omega arith;
     inside = omega (arith, some);
     pos = lt;
+    most = omega arith;
+    way = λ f is. at_root index (f index.file) (passes aim);
     told = λ f items e h front.
         let t = top (passes aim) (keeps aim) index (f index.file) items h front (index.height - 1) (omega (arith, lt, h.height)) in
         (omega (arith, h.height), (sym t.0, sym t.1));
@@ -61,12 +67,15 @@ module _ {W : Type 0} (image : W → Option (ℕ → ℕ → List ℕ)) (index :
   pub steps : (now next_now : W) (after later : ℕ → ℕ) (level page left next start : ℕ) → Descent image index old now before after aim level page left → 1 < level → next_now ≡ now → ((d : ℕ) → after d ≤ later d) → next < index.pages →
       ((f : ℕ → ℕ → List ℕ) (items : List Item) → image now ≡ Some f → IsIndexPage index (level - 1) left page (f index.file page) items → IsFront (passes aim) items →
       (next ≡ (chosen (passes aim) (first_of items) items).page) × (start ≡ (chosen (passes aim) (first_of items) items).left)) →
+      ((f : ℕ → ℕ → List ℕ) → image now ≡ Some f → IsFineHead index (f index.file) page × IsNext index (level - 1) left (passes aim) (f index.file page) (next, start)) →
       Descent image index old next_now before later aim (level - 1) next start
-  steps now next_now after later level page left next start d lt e counts inside step = record {
+  steps now next_now after later level page left next start d lt e counts inside step path = record {
     same = e ∙ d.same;
     counts = λ n. omega (arith, d.counts n, counts n);
     inside = inside;
     pos = omega (arith, lt);
+    most = omega (arith, d.most);
+    way = λ f is. let h = path f (ap image d.same ∙ is) in one_down index (f index.file) (passes aim) level page left d.most lt (d.way f is) next start h.0 h.1;
     told = λ f items is h front.
         let was = d.told f items is h front in
         let k : suc (level - 1 - 1) ≡ level - 1 = omega (arith, lt) in
@@ -85,6 +94,15 @@ module _ {W : Type 0} (image : W → Option (ℕ → ℕ → List ℕ)) (index :
       let h = indexed index (f index.file) entries holds in
       let at = here now after level page left d lt f (items_of entries) is h front in
       step f (block_at (passes aim) h.levels (items_of entries) (level - 1)) (ap image d.same ∙ is) at.0 at.1
+
+  pub stops_at : (now : W) (after : ℕ → ℕ) (level page left : ℕ) (e : FetchErr) → Descent image index old now before after aim level page left → 1 < level →
+      ((f : ℕ → ℕ → List ℕ) → image now ≡ Some f → IfBad (IsBadHere index (f index.file) page (BreaksAbove index (level - 1) left (passes aim) (f index.file page))) e) →
+      (f : ℕ → ℕ → List ℕ) → image old ≡ Some f → IfBad (IsBadAbove index (f index.file) (passes aim)) e
+  stops_at now after level page left e d lt step f is = stops_above index (f index.file) (passes aim) level page left d.most lt (d.way f is) e (step f (ap image d.same ∙ is))
+
+  pub ends_at : (now : W) (after : ℕ → ℕ) (level page left : ℕ) → Descent image index old now before after aim level page left → level ≤ 1 → (f : ℕ → ℕ → List ℕ) → image old ≡ Some f →
+      ReachesLeaf index (f index.file) (passes aim) (page, left)
+  ends_at now after level page left d le f is = at_leaf index (f index.file) (passes aim) level page left le d.pos (d.way f is)
 
   pub ends : (now : W) (after : ℕ → ℕ) (level page left : ℕ) → Descent image index old now before after aim level page left → level ≤ 1 →
       (f : ℕ → ℕ → List ℕ) (entries : List KeyEntry) → image old ≡ Some f → HoldsIndex index (f index.file) entries → IsFront (passes aim) (items_of entries) → IsLeafFor index (f index.file) (passes aim) (items_of entries) (page, left)

@@ -5,6 +5,7 @@ use Rattle.std.specs.List.{AllByRecursion}
 use Rattle.std.specs.Ordering.{is_lt, is_le}
 use Rattle.lists.specs.Arranged.{one_if}
 use Rattle.rows.specs.declared.field.ColType.{ColType}
+use Rattle.rows.specs.declared.value.Value.{Value}
 use Rattle.rows.specs.RowSeen.{seen}
 use Rattle.rows.specs.Values.{value_cmp}
 use Rattle.key_index.specs.Entries.{Item, blank}
@@ -36,11 +37,19 @@ module _ {X : Type 0} where
 abbrev pub upto_number : ℕ → Item → Bool
 upto_number n e = nat_le e.left n
 
+-- the items with a smaller key
+abbrev pub below_key : Value → Item → Bool
+below_key key e = is_lt (value_cmp e.key key)
+
+-- those with a key up to this one
+abbrev pub upto_key : Value → Item → Bool
+upto_key key e = is_le (value_cmp e.key key)
+
 -- the items with a key below the one searched for, those with a key up to it, or those up to a number
 abbrev pub passes : Aim → Item → Bool
-passes (Below key) e = is_lt (value_cmp e.key key.now)
-passes (UpTo key) e = is_le (value_cmp e.key key.now)
-passes (Number n) e = upto_number n e
+passes (Below key) = below_key key.now
+passes (UpTo key) = upto_key key.now
+passes (Number n) = upto_number n
 
 -- the item that is seen where its bytes lie
 abbrev pub seen_item : Entry → Item

@@ -6,6 +6,7 @@ pub mod Readings
 pub mod Fixed
 pub mod Aims
 pub mod Searches
+pub mod Paths
 pub mod Intervals
 pub mod Nodes
 pub mod Written

@@ -10,9 +10,7 @@ use Rattle.heap_page.specs.Pages.{head_fault}
 use Rattle.rows.specs.declared.plain.KeyIndex.{KeyIndex}
 use Rattle.key_index.specs.Entries.{Item, blank}
 use Rattle.key_index.specs.Readings.{page_fault, page_items}
-use Rattle.key_index.specs.Aims.{IsFront, chosen, count, first_of, passes}
-use Rattle.key_index.specs.declared.aim.Aim.{Aim}
-use Rattle.key_index.specs.declared.aim.Aim.TheVariants.{Number}
+use Rattle.key_index.specs.Aims.{IsFront, chosen, count, first_of, upto_number}
 
 -- an index that has entries has a page and a level
 abbrev pub IsUsable : KeyIndex → Type 0
@@ -37,18 +35,18 @@ SearchCause index drives before now NoMemory = ⊤
 -- ---- the search in one page
 
 -- one of the page's items, and where what passes stands in front, the last one that passes, or the first of all
-pub record IsUsed (aim : Aim) (items : List Item) (e : Item) : Type 0 where
+pub record IsUsed (p : Item → Bool) (items : List Item) (e : Item) : Type 0 where
   pub place : ℕ
   pub here : slice_get items place ≡ Some e
-  pub last : IsFront (passes aim) items → e ≡ chosen (passes aim) (first_of items) items
+  pub last : IsFront p items → e ≡ chosen p (first_of items) items
 
 -- The page breaks none of rules 6 to 8, and this item of it is used.
-pub record Uses (index : KeyIndex) (level number : ℕ) (aim : Aim) (bytes : List ℕ) (e : Item) : Type 0 where
+pub record Uses (index : KeyIndex) (level number : ℕ) (p : Item → Bool) (bytes : List ℕ) (e : Item) : Type 0 where
   pub fine : page_fault index.key_type level number bytes ≡ None
   pub items : List Item
   pub rest : List ℕ
   pub holds : page_items index.key_type level number bytes ≡ Some (items, rest)
-  pub used : IsUsed aim items e
+  pub used : IsUsed p items e
 
 -- the item leads to a page of the index, or of its heap file
 abbrev pub Leads : KeyIndex → ℕ → Item → Type 0
@@ -61,35 +59,35 @@ LeadsOut index zero e = index.heap_pages ≤ e.page
 LeadsOut index (suc level) e = (index.pages ≤ e.page) ⊎ (index.entries < e.left)
 
 -- the page one level down, and the entries left of it
-pub record IsNext (index : KeyIndex) (level number : ℕ) (aim : Aim) (bytes : List ℕ) (next : ℕ × ℕ) : Type 0 where
+pub record IsNext (index : KeyIndex) (level number : ℕ) (p : Item → Bool) (bytes : List ℕ) (next : ℕ × ℕ) : Type 0 where
   pub e : Item
-  pub uses : Uses index level number aim bytes e
+  pub uses : Uses index level number p bytes e
   pub page : next.0 ≡ e.page
   pub left : next.1 ≡ e.left
   pub within : (next.0 < index.pages) × (next.1 ≤ index.entries)
 
 -- The first broken rule of a page that is searched: one of rules 6 to 8, or 9, that the item used leads out of the index.
-abbrev pub BreaksAbove : KeyIndex → ℕ → ℕ → Aim → List ℕ → ℕ → Type 0
-BreaksAbove index level number aim bytes rule =
-    (page_fault index.key_type level number bytes ≡ Some rule) ⊎ ((rule ≡ 9) × ((e : Item) × Uses index level number aim bytes e × LeadsOut index level e))
+abbrev pub BreaksAbove : KeyIndex → ℕ → ℕ → (Item → Bool) → List ℕ → ℕ → Type 0
+BreaksAbove index level number p bytes rule =
+    (page_fault index.key_type level number bytes ≡ Some rule) ⊎ ((rule ≡ 9) × ((e : Item) × Uses index level number p bytes e × LeadsOut index level e))
 
 -- The rank is the entries left of the page and those counted in it.
-pub record Ranks (index : KeyIndex) (number : ℕ) (aim : Aim) (bytes : List ℕ) (rank : ℕ) : Type 0 where
+pub record Ranks (index : KeyIndex) (number : ℕ) (p : Item → Bool) (bytes : List ℕ) (rank : ℕ) : Type 0 where
   pub fine : page_fault index.key_type 0 number bytes ≡ None
   pub items : List Item
   pub rest : List ℕ
   pub holds : page_items index.key_type 0 number bytes ≡ Some (items, rest)
-  pub counts : IsFront (passes aim) items → rank ≡ number + count (passes aim) items
+  pub counts : IsFront p items → rank ≡ number + count p items
 
 -- rule 9 of a leaf that is counted: the rank is above the index's entries
-abbrev pub BreaksRank : KeyIndex → ℕ → Aim → List ℕ → ℕ → Type 0
-BreaksRank index number aim bytes rule =
-    (page_fault index.key_type 0 number bytes ≡ Some rule) ⊎ ((rule ≡ 9) × ((rank : ℕ) × Ranks index number aim bytes rank × (index.entries < rank)))
+abbrev pub BreaksRank : KeyIndex → ℕ → (Item → Bool) → List ℕ → ℕ → Type 0
+BreaksRank index number p bytes rule =
+    (page_fault index.key_type 0 number bytes ≡ Some rule) ⊎ ((rule ≡ 9) × ((rank : ℕ) × Ranks index number p bytes rank × (index.entries < rank)))
 
 -- the entry of this number, and its heap page and slot
 pub record IsEntryAt (index : KeyIndex) (number wanted : ℕ) (bytes : List ℕ) (at : ℕ × ℕ) : Type 0 where
   pub e : Item
-  pub uses : Uses index 0 number (Number wanted) bytes e
+  pub uses : Uses index 0 number (upto_number wanted) bytes e
   pub asked : e.left ≡ wanted
   pub page : at.0 ≡ e.page
   pub slot : at.1 ≡ e.slot
@@ -99,7 +97,7 @@ pub record IsEntryAt (index : KeyIndex) (number wanted : ℕ) (bytes : List ℕ)
 abbrev pub BreaksEntry : KeyIndex → ℕ → ℕ → List ℕ → ℕ → Type 0
 BreaksEntry index number wanted bytes rule =
     (page_fault index.key_type 0 number bytes ≡ Some rule)
-    ⊎ ((rule ≡ 9) × ((e : Item) × Uses index 0 number (Number wanted) bytes e × ((e.left ≡ wanted → ⊥) ⊎ LeadsOut index 0 e)))
+    ⊎ ((rule ≡ 9) × ((e : Item) × Uses index 0 number (upto_number wanted) bytes e × ((e.left ≡ wanted → ⊥) ⊎ LeadsOut index 0 e)))
 
 -- A page of the index at this level, as it is written: it breaks no rule, and each of its items leads on inside.
 pub record IsIndexPage (index : KeyIndex) (level number page : ℕ) (bytes : List ℕ) (items : List Item) : Type 0 where

@@ -19,7 +19,7 @@ pub(crate) fn look_above(
 ) -> Result<(u32, u32), u32>
     requires whole { length bytes.now ≡ 8192 }
     requires level { 0 < level }
-    ensures rules { MatchResult result (IsNext index.now level left aim.entry bytes.now) (BreaksAbove index.now level left aim.entry bytes.now) }
+    ensures rules { MatchResult result (IsNext index.now level left (passes aim.entry) bytes.now) (BreaksAbove index.now level left (passes aim.entry) bytes.now) }
     ensures told { (page : ℕ) (items : List Item) → IsIndexPage index.now level left page bytes.now items → IsFront (passes aim.entry) items →
         let e = chosen (passes aim.entry) (first_of items) items in MatchResult result (λ next. (next.0 ≡ e.page) × (next.1 ≡ e.left)) (λ rule. ⊥) }
 {
@@ -48,7 +48,7 @@ pub(crate) fn look_at_rank(
     aim: Aim<'_>,
 ) -> Result<u32, u32>
     requires whole { length bytes.now ≡ 8192 }
-    ensures rules { MatchResult result (λ rank. Ranks index.now left aim.entry bytes.now rank × (rank ≤ index.now.entries)) (BreaksRank index.now left aim.entry bytes.now) }
+    ensures rules { MatchResult result (λ rank. Ranks index.now left (passes aim.entry) bytes.now rank × (rank ≤ index.now.entries)) (BreaksRank index.now left (passes aim.entry) bytes.now) }
     ensures told { (page : ℕ) (items : List Item) → IsIndexPage index.now 0 left page bytes.now items → IsFront (passes aim.entry) items →
         left + count (passes aim.entry) items ≤ index.now.entries → MatchResult result (λ rank. rank ≡ left + count (passes aim.entry) items) (λ rule. ⊥) }
 {

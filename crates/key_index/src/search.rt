@@ -1,9 +1,11 @@
 //! Searches in an index.
-ghost use Rattle.std.specs.Prelude.{◌≡◌, ◌<◌, ◌≤◌, ℕ, List, Some, IfErr, IfOk, MatchResult, max, min, slice_get};
+ghost use Rattle.std.specs.Prelude.{◌≡◌, ◌<◌, ◌≤◌, ℕ, List, Some, IfErr, IfOk, MatchResult, max, min, slice_get, ◌⊎◌};
 ghost use Rattle.rows.specs.declared.plain.KeyEntry.{KeyEntry};
+ghost use Rattle.key_index.specs.Aims.{below_key, upto_key};
 ghost use Rattle.key_index.specs.Entries.{number_below, number_upto};
 ghost use Rattle.key_index.specs.Files.{HoldsIndex};
 ghost use Rattle.key_index.specs.Intervals.{interval_of, lower_end, upper_end};
+ghost use Rattle.key_index.specs.Paths.{HasEntry, HasInterval, HasLower, HasRank, HasUpper, IfBad, IsNarrowed, StopsEntry, StopsInterval, StopsLower, StopsRank, StopsUpper};
 ghost use Rattle.key_index.specs.Searches.{HasIndex, IsUsable, NotBad, SearchCause};
 
 use crate::aim::Aim;
@@ -18,7 +20,9 @@ use std::alloc::Global;
 /// `DriveFault` comes only where the drive's count rises. `BadPage` has a page of the index: where `fetch` answered it, or
 /// with the first rule that a page breaks: 6 the level is the one expected, 7 there is an entry, and all are there in
 /// whole, each key of the key's type, 8 the rest is zero, 9 the page below is one of the index, and no more entries stand
-/// left of it, or are counted, than the index has. Over a page that was fetched it takes no memory.
+/// left of it, or are counted, than the index has. Where the source tells, an answer has a path of pages from the root
+/// to a leaf, each of which breaks no rule and leads to the next, and a bad page is the one at which such a path stops,
+/// with the first rule that the told page breaks. Over a page that was fetched it takes no memory.
 pub fn rank_low<P: PageSource>(
     alloc: Global,
     index: &KeyIndex,
@@ -32,6 +36,8 @@ pub fn rank_low<P: PageSource>(
     ensures within { IfOk result (λ rank. rank ≤ index.now.entries) }
     ensures told { (f : ℕ → ℕ → List ℕ) (entries : List KeyEntry) → P.image (P.whole pages.old) ≡ Some f → HoldsIndex index.now (f index.now.file) entries →
         MatchResult result (λ rank. rank ≡ number_below key.now entries) NotBad }
+    ensures path { (f : ℕ → ℕ → List ℕ) → P.image (P.whole pages.old) ≡ Some f →
+        MatchResult result (HasRank index.now (f index.now.file) (below_key key.now)) (IfBad (StopsRank index.now (f index.now.file) (below_key key.now))) }
     ensures err { IfErr result (SearchCause index.now (P.drives (P.whole pages.old)) (P.faults pages.old) (P.faults pages.new)) }
 {
     rank(alloc, index, pages, Aim::Below(key))
@@ -51,6 +57,8 @@ pub fn rank_high<P: PageSource>(
     ensures within { IfOk result (λ rank. rank ≤ index.now.entries) }
     ensures told { (f : ℕ → ℕ → List ℕ) (entries : List KeyEntry) → P.image (P.whole pages.old) ≡ Some f → HoldsIndex index.now (f index.now.file) entries →
         MatchResult result (λ rank. rank ≡ number_upto key.now entries) NotBad }
+    ensures path { (f : ℕ → ℕ → List ℕ) → P.image (P.whole pages.old) ≡ Some f →
+        MatchResult result (HasRank index.now (f index.now.file) (upto_key key.now)) (IfBad (StopsRank index.now (f index.now.file) (upto_key key.now))) }
     ensures err { IfErr result (SearchCause index.now (P.drives (P.whole pages.old)) (P.faults pages.old) (P.faults pages.new)) }
 {
     rank(alloc, index, pages, Aim::UpTo(key))
@@ -70,6 +78,8 @@ fn find_lower<P: PageSource>(
     ensures within { IfOk result (λ end. end ≤ index.now.entries) }
     ensures told { (f : ℕ → ℕ → List ℕ) (entries : List KeyEntry) → P.image (P.whole pages.old) ≡ Some f → HoldsIndex index.now (f index.now.file) entries →
         MatchResult result (λ end. end ≡ lower_end bound.now.op bound.now.value entries) NotBad }
+    ensures path { (f : ℕ → ℕ → List ℕ) → P.image (P.whole pages.old) ≡ Some f →
+        MatchResult result (HasLower index.now (f index.now.file) bound.now.op bound.now.value) (IfBad (StopsLower index.now (f index.now.file) bound.now.op bound.now.value)) }
     ensures err { IfErr result (SearchCause index.now (P.drives (P.whole pages.old)) (P.faults pages.old) (P.faults pages.new)) }
 {
     match bound.op {
@@ -94,6 +104,8 @@ fn find_upper<P: PageSource>(
     ensures within { IfOk result (λ end. end ≤ index.now.entries) }
     ensures told { (f : ℕ → ℕ → List ℕ) (entries : List KeyEntry) → P.image (P.whole pages.old) ≡ Some f → HoldsIndex index.now (f index.now.file) entries →
         MatchResult result (λ end. end ≡ upper_end bound.now.op bound.now.value entries) NotBad }
+    ensures path { (f : ℕ → ℕ → List ℕ) → P.image (P.whole pages.old) ≡ Some f →
+        MatchResult result (HasUpper index.now (f index.now.file) bound.now.op bound.now.value) (IfBad (StopsUpper index.now (f index.now.file) bound.now.op bound.now.value)) }
     ensures err { IfErr result (SearchCause index.now (P.drives (P.whole pages.old)) (P.faults pages.old) (P.faults pages.new)) }
 {
     match bound.op {
@@ -120,6 +132,9 @@ fn narrow<P: PageSource>(
     ensures within { IfOk result (λ now. (now.from ≤ index.now.entries) × (now.upto ≤ index.now.entries)) }
     ensures told { (f : ℕ → ℕ → List ℕ) (entries : List KeyEntry) → P.image (P.whole pages.old) ≡ Some f → HoldsIndex index.now (f index.now.file) entries →
         MatchResult result (λ now. (now.from ≡ max ends.from (lower_end bound.now.op bound.now.value entries)) × (now.upto ≡ min ends.upto (upper_end bound.now.op bound.now.value entries))) NotBad }
+    ensures path { (f : ℕ → ℕ → List ℕ) → P.image (P.whole pages.old) ≡ Some f →
+        MatchResult result (IsNarrowed index.now (f index.now.file) bound.now ends)
+        (IfBad (λ bad. StopsLower index.now (f index.now.file) bound.now.op bound.now.value bad ⊎ StopsUpper index.now (f index.now.file) bound.now.op bound.now.value bad)) }
     ensures err { IfErr result (SearchCause index.now (P.drives (P.whole pages.old)) (P.faults pages.old) (P.faults pages.new)) }
 {
     let lower = find_lower(alloc, index, pages, bound)?;
@@ -148,6 +163,8 @@ pub fn interval<P: PageSource>(
     ensures within { IfOk result (λ found. (found.from ≤ found.upto) × (found.upto ≤ index.now.entries)) }
     ensures told { (f : ℕ → ℕ → List ℕ) (entries : List KeyEntry) → P.image (P.whole pages.old) ≡ Some f → HoldsIndex index.now (f index.now.file) entries →
         MatchResult result (λ found. found ≡ interval_of bounds.now entries) NotBad }
+    ensures path { (f : ℕ → ℕ → List ℕ) → P.image (P.whole pages.old) ≡ Some f →
+        MatchResult result (HasInterval index.now (f index.now.file) bounds.now) (IfBad (StopsInterval index.now (f index.now.file) bounds.now)) }
     ensures err { IfErr result (SearchCause index.now (P.drives (P.whole pages.old)) (P.faults pages.old) (P.faults pages.new)) }
 {
     let mut ends = Interval {
@@ -181,6 +198,8 @@ pub fn entry<P: PageSource>(
     ensures within { IfOk result (λ at. at.0 < index.now.heap_pages) }
     ensures told { (f : ℕ → ℕ → List ℕ) (entries : List KeyEntry) (e : KeyEntry) → P.image (P.whole pages.old) ≡ Some f → HoldsIndex index.now (f index.now.file) entries → slice_get entries number ≡ Some e →
         MatchResult result (λ at. (at.0 ≡ e.page) × (at.1 ≡ e.slot)) NotBad }
+    ensures path { (f : ℕ → ℕ → List ℕ) → P.image (P.whole pages.old) ≡ Some f →
+        MatchResult result (HasEntry index.now (f index.now.file) number) (IfBad (StopsEntry index.now (f index.now.file) number)) }
     ensures err { IfErr result (SearchCause index.now (P.drives (P.whole pages.old)) (P.faults pages.old) (P.faults pages.new)) }
 {
     let (page, left) = reach(alloc, index, pages, Aim::Number(number))?;

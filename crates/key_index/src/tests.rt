@@ -205,6 +205,15 @@ fn four_numbers_are_found<P: PageSource>(
     Ok(five && six && nine && ten && one && none && last)
 }
 
+// Changes one byte of a page.
+fn change(source: &mut PageList, page: usize, at: usize, mask: u8) {
+    if let Some(bytes) = source.pages.get_mut(page) {
+        if at < bytes.len() {
+            bytes[at] ^= mask;
+        }
+    }
+}
+
 // The answer of a search for the key 5, after one byte of the first page is changed.
 fn after_a_change(
     alloc: Global,
@@ -213,11 +222,7 @@ fn after_a_change(
     at: usize,
     mask: u8,
 ) -> Result<(u32, u32), FetchErr> {
-    if let Some(bytes) = source.pages.get_mut(0) {
-        if at < bytes.len() {
-            bytes[at] ^= mask;
-        }
-    }
+    change(source, 0, at, mask);
     if !fits(index, source) {
         return Err(FetchErr::NoMemory);
     }
@@ -305,6 +310,47 @@ fn many_numbers_are_found(rt: HostRuntime) -> Result<(), Fail> {
         if fits(&index, &source) {
             reached = ranks(alloc, &index, &mut source, 33_333) == Ok((66_666, 66_668));
         }
+    }
+    assert!(rt; reached);
+    Ok(())
+}
+
+// Whether a rank and an entry of the second leaf stop at a page with a rule, while one byte of it is changed.
+fn stops(alloc: Global, index: &KeyIndex, source: &mut PageList, bad: BadPage, at: usize) -> bool {
+    change(source, bad.page as usize, at, 1);
+    if !fits(index, source) || index.entries != 2000 {
+        return false;
+    }
+    let stops = ranks(alloc, index, source, 450) == Err(FetchErr::BadPage(bad))
+        && entry(alloc, index, source, 900) == Err(FetchErr::BadPage(bad));
+    change(source, bad.page as usize, at, 1);
+    stops
+}
+
+fn page_with(page: u32, rule: u32) -> BadPage {
+    BadPage {
+        file: 0,
+        page,
+        rule,
+    }
+}
+
+#[test]
+fn bad_roots_and_leaves_are_named(rt: HostRuntime) -> Result<(), Fail> {
+    let alloc = rt.alloc();
+    let entries = many_numbers(alloc, 2_000)?;
+    let mut reached = false;
+    if let Some((index, mut source)) = written(alloc, &entries, ColType::Int4)? {
+        assert!(rt; index.pages == 4 && index.height == 2);
+        // the file number, the level, the last byte, and of the root the page of its second entry
+        assert!(rt; stops(alloc, &index, &mut source, page_with(3, 4), 11));
+        assert!(rt; stops(alloc, &index, &mut source, page_with(3, 6), 17));
+        assert!(rt; stops(alloc, &index, &mut source, page_with(3, 8), 8191));
+        assert!(rt; stops(alloc, &index, &mut source, page_with(3, 9), 36));
+        assert!(rt; stops(alloc, &index, &mut source, page_with(1, 4), 11));
+        assert!(rt; stops(alloc, &index, &mut source, page_with(1, 6), 17));
+        assert!(rt; stops(alloc, &index, &mut source, page_with(1, 8), 8191));
+        reached = true;
     }
     assert!(rt; reached);
     Ok(())

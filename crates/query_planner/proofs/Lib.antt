@@ -10,3 +10,4 @@ mod Ranks
 mod EntryRows
 mod PlansMean
 mod ReadingExamples
+mod Left

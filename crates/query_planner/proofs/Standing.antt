@@ -73,6 +73,18 @@ known_index relations rows laid drives i o index stands lt here is =
     let l = laid_index stands.tables drives laid i table.0 index are.stand table.1 (at ∙ ap Some is) in
     (l.file_there, l.usable)
 
+-- and it is the one that was laid
+pub index_at : (relations : List Relation) (rows : List ℕ) (laid : Laid) (drives i : ℕ) (o : Option KeyIndex) (index : KeyIndex) → Stands relations rows laid drives → i < length relations →
+    o ≡ get_or laid.indexes.items i o → o ≡ Some index → slice_get laid.indexes.items i ≡ Some (Some index)
+index_at relations rows laid drives i o index stands lt here is =
+    let are = stands.are in
+    some_at laid.indexes.items i o (omega (arith, are.stand.index_count, are.count, lt)) here ∙ ap Some is
+
+pub option_at : (relations : List Relation) (rows : List ℕ) (laid : Laid) (drives i : ℕ) (o : Option KeyIndex) → Stands relations rows laid drives → i < length relations → o ≡ get_or laid.indexes.items i o → slice_get laid.indexes.items i ≡ Some o
+option_at relations rows laid drives i o stands lt here =
+    let are = stands.are in
+    some_at laid.indexes.items i o (omega (arith, are.stand.index_count, are.count, lt)) here
+
 -- the index of one of these tables
 pub told_index : (relations : List Relation) (rows : List ℕ) (laid : Laid) (i : ℕ) (tables : List StoredTable) (table : StoredTable) (o : Option KeyIndex) → AreOf relations rows laid laid.map.drives tables → slice_get tables i ≡ Some table →
     o ≡ get_or laid.indexes.items i o → o ≡ numbers_in (file_number tables i + 1) (length (table_blocks table)) table.index

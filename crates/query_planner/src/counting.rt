@@ -1,9 +1,11 @@
 //! What a plan rests on, counted of the tables.
-ghost use Rattle.std.specs.Prelude.{◌≡◌, ◌<◌, ◌≤◌, ℕ, List, Some, IfErr, IfOk, IfSome, MatchResult, length, slice_get};
+ghost use Rattle.std.specs.Prelude.{◌≡◌, ◌<◌, ◌≤◌, ℕ, List, Option, Some, IfErr, IfOk, IfSome, MatchResult, length, slice_get};
 ghost use Rattle.key_index.specs.Files.{HoldsIndex};
+ghost use Rattle.key_index.specs.Paths.{IfBad, StopsInterval};
 ghost use Rattle.key_index.specs.Searches.{HasIndex, IsUsable, NotBad, SearchCause};
 ghost use Rattle.rel_meaning.specs.Expression.{question_of};
 ghost use Rattle.rel_meaning.specs.declared.query.Var.{Var};
+ghost use Rattle.rows.specs.declared.plain.KeyIndex.{KeyIndex};
 ghost use Rattle.rows.specs.declared.plain.Relation.{Relation};
 ghost use Rattle.seq_optimizer.specs.Bounds.{IsTyped};
 ghost use Rattle.seq_optimizer.specs.Costs.{CanPlan, IsInterval};
@@ -13,7 +15,7 @@ ghost use Rattle.table_store.specs.Files.{numbers_in, table_blocks};
 ghost use Rattle.query_planner.specs.Causes.{ReadCause};
 ghost use Rattle.query_planner.specs.Counted.{AreStats, bounds_on, height_in, interval_in, stats_in};
 ghost use Rattle.query_planner.specs.Known.{AreKnown, IsKnown, Tells};
-ghost use Rattle.query_planner.specs.Plans.{MayPlan};
+ghost use Rattle.query_planner.specs.Plans.{AreLeft, IsLeft, MayPlan};
 
 use crate::known::Known;
 use heap_page::{FetchErr, PageSource};
@@ -65,8 +67,10 @@ fn left_by<P: PageSource>(
     ensures whole { P.whole pages.new ≡ P.whole pages.old }
     ensures counts { (d : ℕ) → P.faults pages.old d ≤ P.faults pages.new d }
     ensures within { IfOk result (λ found. IfSome found IsInterval) }
+    ensures left { IfOk result (IsLeft (P.image (P.whole pages.old)) bounds.now (Some index.now)) }
     ensures told { (f : ℕ → ℕ → List ℕ) (stored : StoredIndex) → P.image (P.whole pages.old) ≡ Some f → HoldsIndex index.now (f index.now.file) stored.entries →
         MatchResult result (λ found. found ≡ interval_in bounds.now (Some stored)) NotBad }
+    ensures path { (f : ℕ → ℕ → List ℕ) → P.image (P.whole pages.old) ≡ Some f → IfErr result (IfBad (StopsInterval index.now (f index.now.file) bounds.now)) }
     ensures err { IfErr result (SearchCause index.now (P.drives (P.whole pages.old)) (P.faults pages.old) (P.faults pages.new)) }
 {
     if bounds.is_empty() {
@@ -91,9 +95,11 @@ fn interval_on<P: PageSource>(
     ensures whole { P.whole pages.new ≡ P.whole pages.old }
     ensures counts { (d : ℕ) → P.faults pages.old d ≤ P.faults pages.new d }
     ensures within { IfOk result (λ found. IfSome found IsInterval) }
+    ensures left { (here : Relation) (index : Option KeyIndex) → slice_get known.now.relations.now relation ≡ Some here → slice_get known.now.laid.now.indexes.items relation ≡ Some index →
+        IfOk result (IsLeft (P.image (P.whole pages.old)) (bounds_on here.index var (question_of query.now)) index) }
     ensures told { (tables : List StoredTable) (table : StoredTable) (here : Relation) → Tells known.now tables (P.image (P.whole pages.old)) → slice_get tables relation ≡ Some table → slice_get known.now.relations.now relation ≡ Some here →
         MatchResult result (λ found. found ≡ interval_in (bounds_on here.index var (question_of query.now)) table.index) NotBad }
-    ensures err { IfErr result (ReadCause known.now.laid.now (P.drives (P.whole pages.old)) (P.faults pages.old) (P.faults pages.new)) }
+    ensures err { IfErr result (ReadCause known.now.laid.now (P.image (P.whole pages.old)) (P.drives (P.whole pages.old)) (P.faults pages.old) (P.faults pages.new)) }
 {
     let place = relation as usize;
     let Some(column) = known.relations.get(place).index else {
@@ -121,9 +127,11 @@ fn stats_of<P: PageSource>(
     ensures whole { P.whole pages.new ≡ P.whole pages.old }
     ensures counts { (d : ℕ) → P.faults pages.old d ≤ P.faults pages.new d }
     ensures within { IfOk result (λ s. IfSome s.interval IsInterval) }
+    ensures left { (v : Var) (here : Relation) (index : Option KeyIndex) → slice_get (question_of query.now).vars var ≡ Some v → slice_get known.now.relations.now v.relation ≡ Some here → slice_get known.now.laid.now.indexes.items v.relation ≡ Some index →
+        IfOk result (λ s. IsLeft (P.image (P.whole pages.old)) (bounds_on here.index var (question_of query.now)) index s.interval) }
     ensures told { (tables : List StoredTable) (table : StoredTable) (here : Relation) (v : Var) → Tells known.now tables (P.image (P.whole pages.old)) → slice_get (question_of query.now).vars var ≡ Some v →
         slice_get known.now.relations.now v.relation ≡ Some here → slice_get tables v.relation ≡ Some table → MatchResult result (λ s. s ≡ stats_in (question_of query.now) var here table) NotBad }
-    ensures err { IfErr result (ReadCause known.now.laid.now (P.drives (P.whole pages.old)) (P.faults pages.old) (P.faults pages.new)) }
+    ensures err { IfErr result (ReadCause known.now.laid.now (P.image (P.whole pages.old)) (P.drives (P.whole pages.old)) (P.faults pages.old) (P.faults pages.new)) }
 {
     let relation = query.vars.get(var as usize).relation;
     let interval = interval_on(alloc, pages, known, query, var, relation)?;
@@ -143,9 +151,10 @@ pub(crate) fn all_stats<P: PageSource>(
     ensures whole { P.whole pages.new ≡ P.whole pages.old }
     ensures counts { (d : ℕ) → P.faults pages.old d ≤ P.faults pages.new d }
     ensures can { IfOk result (CanPlan (question_of query.now)) }
+    ensures left { IfOk result (AreLeft known.now.relations.now known.now.laid.now (P.image (P.whole pages.old)) (question_of query.now)) }
     ensures told { (tables : List StoredTable) → Tells known.now tables (P.image (P.whole pages.old)) →
         MatchResult result (AreStats known.now.relations.now tables (question_of query.now)) NotBad }
-    ensures err { IfErr result (ReadCause known.now.laid.now (P.drives (P.whole pages.old)) (P.faults pages.old) (P.faults pages.new)) }
+    ensures err { IfErr result (ReadCause known.now.laid.now (P.image (P.whole pages.old)) (P.drives (P.whole pages.old)) (P.faults pages.old) (P.faults pages.new)) }
 {
     let mut stats = Vec::new(alloc);
     for var in 0..query.vars.len() as u32 {

@@ -1,5 +1,6 @@
 //! The plans of queries.
 ghost use Rattle.std.specs.Prelude.{◌≡◌, ◌≤◌, ℕ, List, Err, IfErr, IfOk, MatchResult, All, length, map, vec_len};
+ghost use Rattle.buffer_pool.specs.Images.{image_on};
 ghost use Rattle.heap_page.specs.declared.errors.BadPage.{BadPage};
 ghost use Rattle.heap_page.specs.declared.errors.FetchErr.TheVariants as fetch;
 ghost use Rattle.heap_page.specs.Stores.{AreRead, HaveRoom};
@@ -11,7 +12,7 @@ ghost use Rattle.table_store.specs.Images.{HoldImage};
 ghost use Rattle.table_store.specs.Readings.{AllTell};
 ghost use Rattle.query_planner.specs.Causes.{PlanCause, ReadCause};
 ghost use Rattle.query_planner.specs.Known.{IsKnown, Tells};
-ghost use Rattle.query_planner.specs.Plans.{AreBestPlans, IsPlanOf, MayPlan};
+ghost use Rattle.query_planner.specs.Plans.{AreBestPlans, ArePlannedOver, IsPlanOf, IsPlannedOver, MayPlan};
 ghost use Rattle.query_planner.specs.Stored.{AreOf, Stands};
 
 use crate::counting::all_stats;
@@ -50,9 +51,10 @@ fn plan_of<P: PageSource>(
     requires query { MayPlan known.now.relations.now (question_of query.now) }
     ensures whole { P.whole pages.new ≡ P.whole pages.old }
     ensures counts { (d : ℕ) → P.faults pages.old d ≤ P.faults pages.new d }
+    ensures tree { IfOk result (λ p. IsPlannedOver known.now.relations.now known.now.laid.now (P.image (P.whole pages.old)) method (question_of query.now) (planned_of p)) }
     ensures told { (tables : List StoredTable) → Tells known.now tables (P.image (P.whole pages.old)) →
         MatchResult result (λ p. IsPlanOf known.now.relations.now tables method (question_of query.now) (planned_of p)) NotBad }
-    ensures err { IfErr result (ReadCause known.now.laid.now (P.drives (P.whole pages.old)) (P.faults pages.old) (P.faults pages.new)) }
+    ensures err { IfErr result (ReadCause known.now.laid.now (P.image (P.whole pages.old)) (P.drives (P.whole pages.old)) (P.faults pages.old) (P.faults pages.new)) }
 {
     let stats = all_stats(alloc, pages, known, query)?;
     Ok(optimise(alloc, query, &stats, method)?)
@@ -71,10 +73,10 @@ fn plans_of<P: PageSource>(
     requires queries { All (λ q. MayPlan known.now.relations.now (question_of q)) queries.now }
     ensures whole { P.whole pages.new ≡ P.whole pages.old }
     ensures counts { (d : ℕ) → P.faults pages.old d ≤ P.faults pages.new d }
-    ensures count { IfOk result (λ plans. length plans ≡ length queries.now) }
+    ensures trees { IfOk result (λ plans. ArePlannedOver known.now.relations.now known.now.laid.now (P.image (P.whole pages.old)) method (map question_of queries.now) (map planned_of plans)) }
     ensures told { (tables : List StoredTable) → Tells known.now tables (P.image (P.whole pages.old)) →
         MatchResult result (λ plans. AreBestPlans known.now.relations.now tables method (map question_of queries.now) (map planned_of plans)) NotBad }
-    ensures err { IfErr result (ReadCause known.now.laid.now (P.drives (P.whole pages.old)) (P.faults pages.old) (P.faults pages.new)) }
+    ensures err { IfErr result (ReadCause known.now.laid.now (P.image (P.whole pages.old)) (P.drives (P.whole pages.old)) (P.faults pages.old) (P.faults pages.new)) }
 {
     let mut plans = Vec::new(alloc);
     for query in queries {
@@ -87,9 +89,11 @@ fn plans_of<P: PageSource>(
 /// the pages and rows of each variable's table, the height of its index, and the entries of the index that the query's
 /// bounds leave. These are searched for only where the variable's relation has an index and the query sets a bound to
 /// the index's column. There are at most 16 tables, `rows` says how many rows each has, and each query has at most six
-/// variables and a well typed test. `DriveFault` comes only where that drive's count rises. `BadPage` has a page of the
-/// map's files, and doesn't come where all drives tell the image of the tables. `NoMemory` is want of memory. Each drive
-/// is handed back in its place: it keeps its number of pages and all that it tells, and its count doesn't fall.
+/// variables and a well typed test. Whatever the drives tell, each plan is the best one by some counts, whose intervals are there
+/// where the search is made and lie within the entries of the indexes; where all drives tell, they are what the searches
+/// find in the told pages. `DriveFault` comes only where that drive's count rises. `BadPage` has a page of one of the
+/// indexes, and doesn't come where all drives tell the image of the tables; where all drives tell, a search for some
+/// bounds stops at it, with the first rule that it breaks. `NoMemory` is want of memory. Each drive is handed back in its place: it keeps its number of pages and all that it tells, and its count doesn't fall.
 pub fn plan_queries<D: Drive>(
     alloc: Global,
     drives: Vec<D>,
@@ -105,7 +109,7 @@ pub fn plan_queries<D: Drive>(
     ensures read { AreRead D.Drive drives.items result.drives.items }
     ensures plans { (tables : List StoredTable) → AreOf relations.now rows.now laid.now (vec_len drives) tables → HoldImage D.Drive laid.now.map tables drives.items → AllTell D.Drive drives.items →
         IfOk result.plans (λ plans. AreBestPlans relations.now tables method (map question_of queries.now) (map planned_of plans)) }
-    ensures count { IfOk result.plans (λ plans. length plans ≡ length queries.now) }
+    ensures trees { IfOk result.plans (λ plans. ArePlannedOver relations.now laid.now (image_on D.Drive laid.now.map drives.items) method (map question_of queries.now) (map planned_of plans)) }
     ensures accepted { (tables : List StoredTable) (bad : BadPage) → AreOf relations.now rows.now laid.now (vec_len drives) tables → HoldImage D.Drive laid.now.map tables drives.items → AllTell D.Drive drives.items →
         result.plans ≡ Err (fetch.BadPage bad) → ⊥ }
     ensures err { IfErr result.plans (PlanCause D.Drive laid.now drives.items result.drives.items) }

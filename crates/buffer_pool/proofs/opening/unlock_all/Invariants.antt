@@ -1,7 +1,7 @@
 use Rattle.std.proofs.Common.{◌≡◌, ◌≤◌, ◌+◌, ◌++◌, vec_len, vec_capacity, List}
 use Rattle.run_lock.specs.Passes.{IsFree}
 use Rattle.heap_page.specs.Stores.{IsRead}
-use Rattle.buffer_pool.specs.Locks.{Each, lock_drives}
+use Rattle.buffer_pool.specs.Locks.{CoversSeen, Each, drives_seen, lock_drives}
 use Rattle.buffer_pool.proofs.opening.unlock_all.Given as goal
 
 abbrev pub invariant-each : goal.invariant-each
@@ -11,6 +11,7 @@ invariant-each g l = record {
   capacity : vec_capacity l.room ≡ vec_capacity l.initial.room;
   len : vec_len l.room + vec_len l.locks ≡ vec_len l.initial.locks;
   came : (done : List _) × (lock_drives l.initial.locks.items ≡ done ++ lock_drives l.locks.items) × Each (IsRead g.D.Drive) done l.room.items;
+  seen : (done : List _) × (drives_seen l.initial.locks.items l.initial.passes.items ≡ done ++ drives_seen l.locks.items l.passes.items) × Each (CoversSeen g.D.Drive) done l.room.items;
 }
 
 abbrev pub decreases-each : goal.decreases-each

@@ -4,6 +4,7 @@ use Rattle.seq_optimizer.specs.Costs.{IsInterval}
 use Rattle.seq_optimizer.specs.declared.stats.VarStats.{VarStats}
 use Rattle.std.proofs.lemmas.Result.{err_from_is_err_and}
 use Rattle.rel_meaning.specs.Expression.{question_of}
+use Rattle.query_planner.proofs.Left.{one_left}
 use Rattle.query_planner.proofs.SoFar.{all_counted, one_counted, var_there}
 use Rattle.query_planner.proofs.counting.all_stats.Goals as goal
 
@@ -26,6 +27,7 @@ loop-var-preserved g c =
       counts = λ d. omega (arith, inv.counts d, step.counts d);
       count = ap length items ∙ (length-append stats (s ∷ []) ∙ ap (λ (n : ℕ). n + 1) inv.count);
       within = rw items (All-push (λ (x : VarStats). IfSome x.interval IsInterval) stats s inv.within step.within);
+      left = rw items (one_left c.args.known.now.relations.now c.args.known.now.laid.now (g.P.PageSource.image (g.P.PageSource.whole c.args.pages.now)) (question_of c.args.query.now) stats c.loop-var.var s inv.count inv.left (rw inv.whole at step.left));
       told = λ tables tells.
           let now = rw (← inv.whole) at tells in
           rw items

@@ -4,6 +4,7 @@ use Rattle.rel_meaning.specs.Expression.{question_of}
 use Rattle.seq_optimizer.specs.Costs.{IsInterval}
 use Rattle.table_store.specs.declared.files.StoredTable.{StoredTable}
 use Rattle.query_planner.specs.Known.{Tells}
+use Rattle.query_planner.specs.Plans.{AreLeft}
 use Rattle.query_planner.proofs.SoFar.{AreFirst}
 use Rattle.query_planner.proofs.counting.all_stats.Given as goal
 
@@ -13,5 +14,6 @@ invariant-loop-var g l = record {
   counts : (d : ℕ) → g.P.PageSource.faults l.fn.pages d ≤ g.P.PageSource.faults l.pages d;
   count : length l.stats.items ≡ l.var;
   within : All (λ s. IfSome s.interval IsInterval) l.stats.items;
+  left : AreLeft l.known.relations.now l.known.laid.now (g.P.PageSource.image (g.P.PageSource.whole l.fn.pages)) (question_of l.query) l.stats.items;
   told : (tables : List StoredTable) → Tells l.known tables (g.P.PageSource.image (g.P.PageSource.whole l.fn.pages)) → AreFirst l.known.relations.now tables (question_of l.query) l.stats.items;
 }

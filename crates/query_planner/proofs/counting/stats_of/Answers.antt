@@ -23,3 +23,8 @@ returns-clause-told g c = λ tables table here v tells at_v at_r at_t.
     let rows = c.counted.ensures.rows tables table tells.are (rw (← same) at_t) in
     let height = c.counted.ensures.height tables table tells.are (rw (← same) at_t) in
     same_stats c.counted.result (question_of c.args.query.now) c.args.var here table pages rows (c.counted.ensures.interval ∙ interval) height
+
+pub returns-clause-left : goal.returns-clause-left
+returns-clause-left g c = λ v here index at_v at_r at_i.
+    let same : v ≡ c.get.result.now = one_at c.args.query.now.vars c.args.var v c.get.result.now at_v c.get.ensures in
+    rw c.counted.ensures.interval (c.in_ok-interval.ensures.left here index (rw (← same) at_r) (rw (← same) at_i))

@@ -8,3 +8,6 @@ returns-in_err-stats-clause-told g c = λ tables tells.
 
 pub returns-clause-told : goal.returns-clause-told
 returns-clause-told g c = λ tables tells. record { query = c.in_ok-optimise.ensures.query; stats = c.in_ok-stats.stats; are = c.in_ok-stats.ensures.told tables tells; best = c.in_ok-optimise.ensures.tree }
+
+pub returns-clause-tree : goal.returns-clause-tree
+returns-clause-tree g c = record { query = c.in_ok-optimise.ensures.query; stats = c.in_ok-stats.stats; left = c.in_ok-stats.ensures.left; best = c.in_ok-optimise.ensures.tree }

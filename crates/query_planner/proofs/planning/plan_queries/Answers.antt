@@ -1,5 +1,7 @@
 use Rattle.std.proofs.Common.{◌≡◌, ◌∙◌, ℕ, List, Option, ap, length, map, subst, sym}
+use Rattle.std.specs.Prelude.{IfOk}
 use Rattle.std.proofs.lemmas.Result.{IfErr-weaker, MatchResult-at_err, MatchResult-weaker}
+use Rattle.buffer_pool.specs.Images.{image_on}
 use Rattle.buffer_pool.specs.Lone.{count_at, drives_of, map_of}
 use Rattle.buffer_pool.specs.declared.mounted.Mounted.{Mounted}
 use Rattle.heap_page.specs.declared.errors.FetchErr.TheVariants.{BadPage}
@@ -7,7 +9,7 @@ use Rattle.key_index.specs.Searches.{NotBad}
 use Rattle.plan_tree.specs.Views.{planned_of}
 use Rattle.rel_meaning.specs.Expression.{question_of}
 use Rattle.query_planner.specs.Causes.{PlanCause, ReadCause}
-use Rattle.query_planner.specs.Plans.{AreBestPlans}
+use Rattle.query_planner.specs.Plans.{AreBestPlans, ArePlannedOver}
 use Rattle.query_planner.specs.Stored.{AreOf}
 use Rattle.query_planner.specs.Told.{AreTold}
 use Rattle.query_planner.proofs.Causing.{of_drives}
@@ -40,6 +42,11 @@ returns-clause-err g c =
     let drives = (map_of c.in-Ok.pool.mounted).drives in
     let count : drives ≡ length olds = c.in-Ok.ensures.files.1 ∙ (c.requires.stands.are.stand.of.drives_are ∙ c.args.drives.ok.0) in
     let same : length news ≡ length olds = c.into_drives.ensures.read.len ∙ (ap (λ (m : Mounted _). length (drives_of m)) c.plans_of-plans.ensures.whole ∙ ap length c.in-Ok.ensures.drives) in
-    IfErr-weaker c.plans_of-plans.result (ReadCause laid drives (count_at first) (count_at last)) (PlanCause g.D.Drive laid olds news)
-    (λ e h. of_drives g.D.Drive laid drives olds news first last e c.in-Ok.ensures.new.same c.into_drives.ensures.drives count same h)
+    let image = image_on g.D.Drive (map_of c.in-Ok.pool.mounted) (drives_of c.in-Ok.pool.mounted) in
+    IfErr-weaker c.plans_of-plans.result (ReadCause laid image drives (count_at first) (count_at last)) (PlanCause g.D.Drive laid olds news)
+    (λ e h. of_drives g.D.Drive laid image drives olds news first last e c.in-Ok.ensures.new.same c.into_drives.ensures.drives c.in-Ok.ensures.image count same h)
     c.plans_of-plans.ensures.err
+
+pub returns-clause-trees : goal.returns-clause-trees
+returns-clause-trees g c =
+    subst (λ (image : Option (ℕ → ℕ → List ℕ)). IfOk c.plans_of-plans.result (λ plans. ArePlannedOver c.args.relations.now c.args.laid.now image c.args.method (map question_of c.args.queries.now) (map planned_of plans))) c.in-Ok.ensures.image c.plans_of-plans.ensures.trees

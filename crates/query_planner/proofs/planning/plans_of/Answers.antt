@@ -8,6 +8,7 @@ use Rattle.plan_tree.specs.Views.{planned_of}
 use Rattle.heap_page.proofs.Found.{some_at}
 use Rattle.rel_meaning.specs.declared.query.Query.{Query}
 use Rattle.rel_meaning.specs.Expression.{question_of}
+use Rattle.query_planner.proofs.Left.{one_over}
 use Rattle.query_planner.proofs.SoFar.{all_planned, one_planned}
 use Rattle.query_planner.proofs.planning.plans_of.Goals as goal
 
@@ -32,6 +33,9 @@ loop-query-preserved g c =
       whole = step.whole ∙ inv.whole;
       counts = λ d. omega (arith, inv.counts d, step.counts d);
       count = ap length items ∙ (length-append plans (plan ∷ []) ∙ ap (λ (n : ℕ). n + 1) inv.count);
+      trees =
+          let more : map planned_of c.push.new.self.items ≡ map planned_of plans ++ planned_of plan ∷ [] = ap (λ (ps : List Plan). map planned_of ps) items ∙ map-append planned_of plans (plan ∷ []) in
+          rw more (one_over c.args.known.now.relations.now c.args.known.now.laid.now (g.P.PageSource.image (g.P.PageSource.whole c.args.pages.now)) c.args.method (map question_of queries) (map planned_of plans) place (question_of c.query-item.result) (planned_of plan) (length-map plans planned_of ∙ inv.count) inv.trees here (rw inv.whole at step.tree));
       told = λ tables tells.
           let now = rw (← inv.whole) at tells in
           let more : map planned_of c.push.new.self.items ≡ map planned_of plans ++ planned_of plan ∷ [] = ap (λ (ps : List Plan). map planned_of ps) items ∙ map-append planned_of plans (plan ∷ []) in
@@ -46,3 +50,10 @@ returns-clause-told g c = λ tables tells.
     let plans = c.loop-query.plans.items in
     let count : length (map planned_of plans) ≡ length (map question_of queries) = omega (arith, length-map plans planned_of, length-map queries question_of, c.loop-query.invariant.count) in
     rw c.from_vec.ensures (all_planned c.args.known.now.relations.now tables c.args.method (map question_of queries) (map planned_of plans) count (c.loop-query.invariant.told tables tells))
+
+pub returns-clause-trees : goal.returns-clause-trees
+returns-clause-trees g c =
+    let queries = c.args.queries.now in
+    let plans = c.loop-query.plans.items in
+    let count : length (map planned_of plans) ≡ length (map question_of queries) = omega (arith, length-map plans planned_of, length-map queries question_of, c.loop-query.invariant.count) in
+    rw c.from_vec.ensures (record { count = count; each = c.loop-query.invariant.trees })

@@ -1,5 +1,7 @@
-use Rattle.std.proofs.Common.{rules, length, drop, refl}
-use Rattle.buffer_pool.proofs.Alone.{answered, counts_on, still, within}
+use Rattle.std.proofs.Common.{rules, length, drop, refl, subst}
+use Rattle.buffer_pool.specs.Lone.{IsTurnAt, map_of}
+use Rattle.buffer_pool.specs.declared.place.Place.{Place}
+use Rattle.buffer_pool.proofs.Alone.{answered, counts_on, place_same, still, within}
 use Rattle.buffer_pool.proofs.Lists.{front_is}
 use Rattle.buffer_pool.proofs.lone.LonePoolPageSource.fetch.Goals as goal
 
@@ -32,3 +34,10 @@ returns-clause-err g c =
     let after = front_is c.fetch_from.new.shards (drop (length c.fetch_from.new.shards) c.args.self.now.shards.items) c.args.self.now.shards.len (search (rules, on.len)) in
     (answered c.args.self.now.mounted c.args.self.now.shards.items c.fetch_from.new.shards _ c.args.file c.args.page c.place_of-place.result c.fetch_from.result after
     c.args.self.now.sound c.place_of-place.ensures c.requires (rw c.deref_mut.ensures.value at c.fetch_from.ensures.fetched)).1
+
+pub returns-clause-turn : goal.returns-clause-turn
+returns-clause-turn g c = λ place placed.
+    let on = rw c.deref_mut.ensures.value at c.fetch_from.ensures.on in
+    let after = front_is c.fetch_from.new.shards (drop (length c.fetch_from.new.shards) c.args.self.now.shards.items) c.args.self.now.shards.len (search (rules, on.len)) in
+    let same = place_same (map_of c.args.self.now.mounted) c.args.file c.args.page c.place_of-place.result place c.requires c.place_of-place.ensures placed in
+    rw after (subst (λ (p : Place). IsTurnAt p c.args.file c.args.page c.args.self.now.shards.items c.fetch_from.new.shards c.fetch_from.result) same (rw c.deref_mut.ensures.value at c.fetch_from.ensures.turn))
