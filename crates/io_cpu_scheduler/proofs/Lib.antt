@@ -1,7 +1,9 @@
 pub mod Balances
 pub mod Decides
+pub mod GoesOn
 pub mod Leaders
 pub mod Orders
 pub mod Sense
+pub mod Starts
 pub mod StepsLemmas
 pub mod Unbeaten

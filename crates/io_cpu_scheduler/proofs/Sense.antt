@@ -146,7 +146,7 @@ fresh_sense m ready (Some i) (Some j) low fits is_i is_j is =
     (λ f. lone_sense m ready low fits is)
 
 -- what holds of one load holds of each of a list of it alone
-only : (P : Load → Type 0) (l : Load) → P l → All P (l ∷ [])
+pub only : (P : Load → Type 0) (l : Load) → P l → All P (l ∷ [])
 only P l holds = All-push P [] l (All-nil P) holds
 
 joined_sense : (m : Machine) (r o : Load) (ready : List Load) (c : Class) → 2 ≤ m.backends → Contains (r ∷ ready) o → class_at m o ≢ class_at m r → IsSensible m (r ∷ []) ready (joined c m r o)

@@ -1,5 +1,5 @@
 -- What holds of every decision.
-use Rattle.std.specs.Prelude.{◌≡◌, ◌≢◌, ◌≤◌, ◌+◌, ◌⊎◌, ℕ, List, ◌++◌, Some, IfSome}
+use Rattle.std.specs.Prelude.{◌≡◌, ◌≢◌, ◌≤◌, ◌+◌, ◌⊎◌, ℕ, List, ◌++◌, Option, Some, None, IfSome}
 use Rattle.std.specs.List.{All, Contains}
 use Rattle.rows.specs.declared.plain.Machine.{Machine}
 use Rattle.io_cpu_scheduler.specs.declared.load.Load.{Load}
@@ -26,6 +26,15 @@ pub record AreApart (m : Machine) (loads : List Load) (p q : Part) : Type 0 wher
   pub classes : class_at m one ≢ class_at m other
   pub first : one.fragment ≡ p.fragment
   pub second : other.fragment ≡ q.fragment
+
+-- the part is of this fragment
+abbrev pub IsOf : Option Part → ℕ → Type 0
+IsOf None fragment = ⊥
+IsOf (Some p) fragment = p.fragment ≡ fragment
+
+-- one of the parts is of this fragment
+abbrev pub HasPart : Decision → ℕ → Type 0
+HasPart d fragment = IsOf d.first fragment ⊎ IsOf d.second fragment
 
 -- two parts share all backends, stand in the order of their fragments, and the load that runs is one of them
 pub record IsPair (m : Machine) (running ready : List Load) (p q : Part) : Type 0 where

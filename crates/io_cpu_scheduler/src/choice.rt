@@ -1,8 +1,8 @@
-ghost use Rattle.std.specs.Prelude.{◌≡◌, ◌<◌, ◌≤◌, [], ◌∷◌, length};
+ghost use Rattle.std.specs.Prelude.{◌≡◌, ◌<◌, ◌≤◌, ◌+◌, [], ◌∷◌, length, IsSome};
 ghost use Rattle.std.specs.List.{All};
 ghost use Rattle.io_cpu_scheduler.specs.Limits.{IsLoad, IsMachine};
 ghost use Rattle.io_cpu_scheduler.specs.Loads.{lowest};
-ghost use Rattle.io_cpu_scheduler.specs.Sensible.{IsSensible};
+ghost use Rattle.io_cpu_scheduler.specs.Sensible.{HasPart, IsSensible};
 ghost use Rattle.io_cpu_scheduler.specs.Decisions.{alone, decision, lone, paired};
 
 use crate::degree::{balance, class_of, solo};
@@ -29,10 +29,29 @@ pub fn decide(running: &LoadList, ready: &LoadList, machine: &Machine) -> Decisi
     requires machine { IsMachine machine.now }
     ensures value { result ≡ decision machine.now running.now ready.now }
 
-    // Each part is of one of these loads, two share all backends, and what runs goes on.
+    // Each part is of one of these loads, and two are of two classes and share all backends.
     ensures sensible { IsSensible machine.now running.now ready.now result }
+
+    // What runs goes on.
+    ensures goes_on { All (λ load. HasPart result load.fragment) running.now }
+
+    // Where one runs or is ready, something is to run.
+    ensures some { 0 < length running.now + length ready.now → IsSome result.first }
 {
-    decide_among(running.items(), ready.items(), machine)
+    decide_loads(running.items(), ready.items(), machine)
+}
+
+/// As `decide`, of loads that stand in slices.
+pub fn decide_loads(running: &[Load], ready: &[Load], machine: &Machine) -> Decision
+    requires one { length running.now ≤ 1 }
+    requires loads { All IsLoad running.now × All IsLoad ready.now }
+    requires machine { IsMachine machine.now }
+    ensures value { result ≡ decision machine.now running.now ready.now }
+    ensures sensible { IsSensible machine.now running.now ready.now result }
+    ensures goes_on { All (λ load. HasPart result load.fragment) running.now }
+    ensures some { 0 < length running.now + length ready.now → IsSome result.first }
+{
+    decide_among(running, ready, machine)
 }
 
 fn decide_among(running: &[Load], ready: &[Load], machine: &Machine) -> Decision

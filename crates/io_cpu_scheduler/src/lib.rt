@@ -13,7 +13,7 @@ mod steps;
 #[cfg(test)]
 mod tests;
 
-pub use choice::decide;
+pub use choice::{decide, decide_loads};
 pub use degree::{balance, class_of, solo};
 pub use load::{Class, Decision, Load, LoadList, Part};
 pub use steps::machine_after;
