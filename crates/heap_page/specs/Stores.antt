@@ -30,9 +30,9 @@ IsBad file page bytes (fetch.DriveFault d) = ⊥
 IsBad file page bytes (fetch.BadPage bad) = (bad.file ≡ file) × (bad.page ≡ page) × (head_fault Heap file page bytes ≡ Some bad.rule)
 IsBad file page bytes fetch.NoMemory = ⊥
 
--- the told page has this fault in its head
+-- the told page has this fault in its head, or some page does where none is told
 abbrev pub HasBadHead : Option (List (List ℕ)) → ℕ → ℕ → BadPage → Type 0
-HasBadHead None address file bad = ⊤
+HasBadHead None address file bad = (page : List ℕ) × (head_fault Heap file bad.page page ≡ Some bad.rule)
 HasBadHead (Some pages) address file bad = (page : List ℕ) × (slice_get pages address ≡ Some page) × (head_fault Heap file bad.page page ≡ Some bad.rule)
 
 -- the drive that has failed, by the answer

@@ -9,7 +9,7 @@ use Rattle.xp_outside.specs.declared.drive.Drive.{Ghosts}
 use Rattle.heap_page.specs.declared.errors.BadPage.{BadPage}
 use Rattle.heap_page.specs.declared.errors.FetchErr.{FetchErr}
 use Rattle.heap_page.specs.declared.errors.FetchErr.TheVariants as fetch
-use Rattle.heap_page.specs.Maps.{HasPage}
+use Rattle.heap_page.specs.Maps.{address_of}
 use Rattle.heap_page.specs.Stores.{AreRead, HaveRoom}
 use Rattle.heap_page.proofs.Found.{get_below, there}
 use Rattle.rows.specs.declared.plain.Column.{Column}
@@ -19,10 +19,10 @@ use Rattle.rows.specs.RowBytes.{IsRowOf}
 use Rattle.rel_meaning.specs.declared.query.Table.{Table}
 use Rattle.table_store.specs.declared.database.Laid.{Laid}
 use Rattle.table_store.specs.Databases.{ReadCause, TellTables}
-use Rattle.table_store.specs.Readings.{TableCause, TellRows}
+use Rattle.table_store.specs.Readings.{TableCause, TellRows, TellsBreak}
 use Rattle.table_store.proofs.Again.{tell_kept}
 use Rattle.table_store.proofs.Encoded.{take_one}
-use Rattle.table_store.proofs.Pages.{fault_earlier, read_none, read_trans}
+use Rattle.table_store.proofs.Pages.{cause_earlier, read_none, read_trans}
 
 abbrev pub columns_of_tables : List Table → List (List Column)
 columns_of_tables db = map (λ (t : Table). t.columns) db
@@ -46,15 +46,24 @@ same_table : (a b : Table) → a.columns ≡ b.columns → a.rows ≡ b.rows →
 same_table a b e f = ap₂ (λ (cs : List Column) (rs : List (List Value)). record { columns = cs; rows = rs }) e f
 
 module _ {D : Type 0} (g : Ghosts D) (laid : Laid) where
-  pub read_cause : (file : ℕ) (columns : List Column) (olds news : List D) (e : FetchErr) → TableCause g laid.map file columns olds news e → ReadCause g laid olds news e
-  read_cause file columns olds news (fetch.DriveFault d) h = h
-  read_cause file columns olds news (fetch.BadPage bad) h = subst (λ (f : ℕ). HasPage laid.map.files.items f bad.page) (sym h.0) h.1
-  read_cause file columns olds news fetch.NoMemory h = tt
+  -- what a table shows, a database shows
+  read_cause : (relations : List Relation) (place file : ℕ) (relation : Relation) (olds news : List D) (e : FetchErr) → slice_get relations place ≡ Some relation → slice_get laid.heaps.items place ≡ Some file →
+      TableCause g laid.map file relation.columns olds news e → ReadCause g laid relations olds news e
+  read_cause relations place file relation olds news (fetch.DriveFault d) here number h = h
+  read_cause relations place file relation olds news (fetch.BadPage bad) here number h = record {
+    place = place;
+    relation = relation;
+    here = here;
+    file = number ∙ ap (λ (f : ℕ). Some f) (sym h.0);
+    page = rw h.0 h.1;
+    breaks = λ drive at. subst (λ (f : ℕ). TellsBreak (g.pages drive) (address_of laid.map f bad.page) relation.columns f bad) (sym h.0) (h.2 drive at);
+  }
+  read_cause relations place file relation olds news fetch.NoMemory here number h = tt
 
-  pub cause_earlier : (us bs cs : List D) (e : FetchErr) → AreRead g us bs → ReadCause g laid bs cs e → ReadCause g laid us cs e
-  cause_earlier us bs cs (fetch.DriveFault d) h k = fault_earlier g us bs cs d h k
-  cause_earlier us bs cs (fetch.BadPage bad) h k = k
-  cause_earlier us bs cs fetch.NoMemory h k = tt
+  pub cause_of : (relations : List Relation) (place file : ℕ) (relation : Relation) (us bs cs : List D) (e : FetchErr) → slice_get relations place ≡ Some relation → slice_get laid.heaps.items place ≡ Some file →
+      AreRead g us bs → TableCause g laid.map file relation.columns bs cs e → ReadCause g laid relations us cs e
+  cause_of relations place file relation us bs cs e here number h k =
+      read_cause relations place file relation us cs e here number (cause_earlier g laid.map file relation.columns us bs cs e h k)
 
   -- the tables so far
   pub record Back (relations : List Relation) (olds : List D) (count : ℕ) (tables : List Table) (news : List D) : Type 0 where

@@ -126,7 +126,7 @@ module _ {D : Type 0} (g : Ghosts D) where
     all_read olds news count rows h r = record { pages = r.pages; all = (h.0, h.1, h.2 ∙ sym r.len); read = r.rows_are }
 
     told_break : (pages : Option (List (List ℕ))) (address : ℕ) (bad : BadPage) (page : List ℕ) → ReadsPage pages address page → Breaks columns file bad.page page bad.rule → TellsBreak pages address columns file bad
-    told_break None address bad page told h = tt
+    told_break None address bad page told h = (page, h)
     told_break (Some ps) address bad page told h = (page, told, h)
 
     bad_here : (olds news : List D) (number : ℕ) (page : List ℕ) (e : FetchErr) → HasPage map_of.files.items file number →

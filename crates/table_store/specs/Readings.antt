@@ -30,9 +30,9 @@ abbrev pub Breaks : List Column → ℕ → ℕ → List ℕ → ℕ → Type 0
 Breaks columns file number bytes rule =
     (fault_of file number bytes ≡ Some rule) ⊎ ((fault_of file number bytes ≡ None) × (rule ≡ 9) × HasStranger columns (items_of bytes))
 
--- the page that is told at this address breaks the rule
+-- the page that is told at this address breaks the rule, or some page does where none is told
 abbrev pub TellsBreak : Option (List (List ℕ)) → ℕ → List Column → ℕ → BadPage → Type 0
-TellsBreak None address columns file bad = ⊤
+TellsBreak None address columns file bad = (page : List ℕ) × Breaks columns file bad.page page bad.rule
 TellsBreak (Some pages) address columns file bad = (page : List ℕ) × (slice_get pages address ≡ Some page) × Breaks columns file bad.page page bad.rule
 
 module _ {D : Type 0} (g : Ghosts D) where

@@ -9,7 +9,7 @@ ghost use Rattle.rows.specs.declared.value.Value.{Value};
 ghost use Rattle.rows.specs.RowBytes.{IsRowOf};
 ghost use Rattle.rel_meaning.specs.declared.query.Table.{Table};
 ghost use Rattle.table_store.specs.Databases.{ReadCause, TellTables};
-ghost use Rattle.table_store.specs.Readings.{TellRows};
+ghost use Rattle.table_store.specs.Readings.{TableCause, TellRows};
 
 use crate::database::Laid;
 use crate::reading::read_table;
@@ -39,7 +39,7 @@ fn read_relation<D: Drive>(
     ensures typed { IfOk result (λ table. All (IsRowOf table.columns) table.rows) }
     ensures again { (rows : List (List Value)) → TellRows D.Drive laid.now.map heap relation.now.columns rows drives.old → IfOk result (λ table. table.rows ≡ rows) }
     ensures accepted { (rows : List (List Value)) (bad : BadPage) → TellRows D.Drive laid.now.map heap relation.now.columns rows drives.old → result ≡ Err (fetch.BadPage bad) → ⊥ }
-    ensures err { IfErr result (ReadCause D.Drive laid.now drives.old drives.new) }
+    ensures err { IfErr result (TableCause D.Drive laid.now.map heap relation.now.columns drives.old drives.new) }
 {
     let rows = read_table(alloc, drives, &laid.map, heap, &relation.columns, spent)?;
     Ok(Table {
@@ -60,8 +60,8 @@ fn rows_of(alloc: Global, table: Option<Table>) -> Rows
 
 /// The tables of a database that was laid on drives, read back page by page. They have the columns of the relations, and
 /// their rows are of these columns, whatever the drives tell. Drives that tell the rows of a database give just that
-/// database, and no `BadPage`. `DriveFault` comes only where that drive's count rises. `BadPage` has a page of a heap file and
-/// the first rule that it breaks. Each drive keeps its number of pages and all that it tells. The rows take the places of those
+/// database, and no `BadPage`. `DriveFault` comes only where that drive's count rises. `BadPage` has a page of a relation's
+/// heap file and the first rule that what was read of it breaks: the told page where its drive tells. Each drive keeps its number of pages and all that it tells. The rows take the places of those
 /// of `spent`, whatever these are: each of them is given up when a row is read, so that its memory serves the next one.
 pub fn read_database<D: Drive>(
     alloc: Global,
@@ -80,7 +80,7 @@ pub fn read_database<D: Drive>(
     ensures typed { IfOk result (All (λ t. All (IsRowOf t.columns) t.rows)) }
     ensures again { (db : List Table) → map (λ t. t.columns) db ≡ map (λ r. r.columns) catalog.now → TellTables D.Drive laid.now db drives.old → IfOk result (λ found. found ≡ db) }
     ensures accepted { (db : List Table) (bad : BadPage) → map (λ t. t.columns) db ≡ map (λ r. r.columns) catalog.now → TellTables D.Drive laid.now db drives.old → result ≡ Err (fetch.BadPage bad) → ⊥ }
-    ensures err { IfErr result (ReadCause D.Drive laid.now drives.old drives.new) }
+    ensures err { IfErr result (ReadCause D.Drive laid.now catalog.now drives.old drives.new) }
 {
     let mut spent = spent.into_vec().into_iter();
     let mut tables = Vec::new(alloc);

@@ -3,7 +3,7 @@ use Rattle.std.proofs.lemmas.List.{take_all}
 use Rattle.std.proofs.lemmas.Result.{err_from_is_err_and}
 use Rattle.heap_page.specs.declared.errors.FetchErr.TheVariants as fetch
 use Rattle.heap_page.proofs.Found.{some_at}
-use Rattle.table_store.proofs.DatabaseRead.{cause_earlier, no_bad, one_back, same_count, same_err}
+use Rattle.table_store.proofs.DatabaseRead.{cause_of, no_bad, one_back, same_count, same_err}
 use Rattle.table_store.proofs.Pages.{read_trans}
 use Rattle.table_store.proofs.database_reading.read_database.Goals as goal
 
@@ -22,7 +22,11 @@ returns-in_err-read_relation-clause-accepted g c = λ db bad e tell is.
 pub returns-in_err-read_relation-clause-err : goal.returns-in_err-read_relation-clause-err
 returns-in_err-read_relation-clause-err g c =
     let p = err_from_is_err_and c.from_residual.result c.from_residual.ensures.1 in
-    rw (p.1, p.2) (cause_earlier g.D.Drive c.args.laid.now c.args.drives.now c.loop-place.drives c.read_relation.new.drives _ c.loop-place.invariant.read c.in_err-read_relation.ensures.err)
+    let here = some_at c.items-relation-items.result.now c.loop-place.place c.relation-item.result c.loop-place-test.true c.relation-item.is in
+    let number = some_at c.args.laid.now.heaps.items c.loop-place.place c.index-heap.result.now (rw (c.requires.count, ← c.items-relation-items.ensures) c.loop-place-test.true) c.index-heap.ensures in
+    rw (p.1, p.2)
+    (cause_of g.D.Drive c.args.laid.now c.args.catalog.now c.loop-place.place c.index-heap.result.now c.relation-item.result c.args.drives.now c.loop-place.drives c.read_relation.new.drives _ (rw (← c.items-relation-items.ensures) here) number
+    c.loop-place.invariant.read c.in_err-read_relation.ensures.err)
 
 pub returns-in_err-push-clause-read : goal.returns-in_err-push-clause-read
 returns-in_err-push-clause-read g c =
