@@ -29,7 +29,7 @@ module _ (bytes : ℕ → ℕ) (offset a n : ℕ) (xs : List ℕ) where
         let d = get_or (take a xs) (place - offset) (bytes place) in
         let at : a + (place - (offset + a)) ≡ place - offset = omega (arith, leb-true (offset + a) place f) in
         rw (e, f) (later_item a n xs (place - (offset + a)) d ∙ ap (λ i. get_or (take (a + n) xs) i d) at
-            ∙ ap (get_or (take (a + n) xs) (place - offset)) (past_take a xs (place - offset) (bytes place) (omega (arith, leb-true (offset + a) place f))))
+        ∙ ap (get_or (take (a + n) xs) (place - offset)) (past_take a xs (place - offset) (bytes place) (omega (arith, leb-true (offset + a) place f))))
 
 pub writes_more : (old mid new : Option (ℕ → ℕ)) (offset a n : ℕ) (xs : List ℕ) → Writes old mid offset a xs → Writes mid new (offset + a) n (drop a xs) → Writes old new offset (a + n) xs
 writes_more None mid new offset a n xs first second = subst (λ m. Writes m new (offset + a) n (drop a xs)) first second

@@ -47,7 +47,7 @@ module _ (page : ℕ) (xs : List ℕ) (lt : page < 2048) (long : length xs ≡ 8
     by : (b : Bool) → leb (page * 8192) place ≡ b → overlaid bytes (page * 8192) xs place ≡ bytes place
     by false e = rw e refl
     by true e = elim h [
-      inl before ↦ absurd (omega (arith, before, leb-true (page * 8192) place e))
+      | inl before ↦ absurd (omega (arith, before, leb-true (page * 8192) place e))
       | inr behind ↦ rw e (get_or_past xs (place - page * 8192) (bytes place) (omega (arith, behind)))
     ]
 
@@ -62,8 +62,8 @@ apart page other i differs below = by (ltb other page) refl where
 same_page : (bytes later : ℕ → ℕ) (page other : ℕ) → ((place : ℕ) → (place < page * 8192) ⊎ (page * 8192 + 8192 ≤ place) → later place ≡ bytes place) → other ≢ page → page_at later other ≡ page_at bytes other
 same_page bytes later page other same differs =
     ext_get_or 0 (page_at later other) (page_at bytes other) (long_page later other ∙ sym (long_page bytes other)) (λ i within.
-      let below : i < 8192 = omega (arith, within, long_page later other) in
-      byte_is later other i below ∙ same (other * 8192 + i) (apart page other i differs below) ∙ sym (byte_is bytes other i below))
+    let below : i < 8192 = omega (arith, within, long_page later other) in
+    byte_is later other i below ∙ same (other * 8192 + i) (apart page other i differs below) ∙ sym (byte_is bytes other i below))
 
 pub keeps_others : (old new : Option (ℕ → ℕ)) (page : ℕ) → Spoils old new (page * 8192) 8192 → StillTells (option_map pages_of old) (option_map pages_of new) page
 keeps_others None new page h = subst (λ n. StillTells None (option_map pages_of n) page) (sym h) tt
@@ -76,7 +76,7 @@ keeps_others (Some bytes) (Some later) page h = (
   by other differs true e =
       let lt : other < 2048 = ltb-true other 2048 e in
       slice_get-get_or (pages_of later) other [] (omega (arith, lt, some_pages later)) ∙ ap Some (page_is later other lt ∙ same_page bytes later page other h differs ∙ sym (page_is bytes other lt))
-        ∙ sym (slice_get-get_or (pages_of bytes) other [] (omega (arith, lt, some_pages bytes)))
+      ∙ sym (slice_get-get_or (pages_of bytes) other [] (omega (arith, lt, some_pages bytes)))
   by other differs false e = let far = ltb-false other 2048 e in slice_get_past (pages_of later) other (omega (arith, far, some_pages later)) ∙ sym (slice_get_past (pages_of bytes) other (omega (arith, far, some_pages bytes)))
 
 module _ (page : ℕ) (xs : List ℕ) (lt : page < 2048) (long : length xs ≡ 8192) where
@@ -84,12 +84,12 @@ module _ (page : ℕ) (xs : List ℕ) (lt : page < 2048) (long : length xs ≡ 8
   over_pages bytes =
       let later = overlaid bytes (page * 8192) xs in
       ext_get_or [] (pages_of later) (set (pages_of bytes) page xs) (some_pages later ∙ sym (some_pages bytes) ∙ sym (length-set (pages_of bytes) page xs)) (λ other within. by other (omega (arith, within, some_pages later)) (eqb other page) refl) where
-    by : (other : ℕ) → other < 2048 → (b : Bool) → eqb other page ≡ b → get_or (pages_of (overlaid bytes (page * 8192) xs)) other [] ≡ get_or (set (pages_of bytes) page xs) other []
-    by other below true e = subst (λ o. get_or (pages_of (overlaid bytes (page * 8192) xs)) o [] ≡ get_or (set (pages_of bytes) page xs) o []) (sym (eqb-true other page e)) (page_is (overlaid bytes (page * 8192) xs) page lt ∙ over_page page xs lt long bytes ∙ sym (get_or-set_same (pages_of bytes) page xs [] (omega (arith, some_pages bytes, lt))))
-    by other below false e =
-        let differs : other ≢ page = eqb-false other page e in
-        page_is (overlaid bytes (page * 8192) xs) other below ∙ same_page bytes (overlaid bytes (page * 8192) xs) page other (beside page xs lt long bytes) differs ∙ sym (page_is bytes other below)
-          ∙ sym (get_or-set_other (pages_of bytes) page other xs [] differs)
+        by : (other : ℕ) → other < 2048 → (b : Bool) → eqb other page ≡ b → get_or (pages_of (overlaid bytes (page * 8192) xs)) other [] ≡ get_or (set (pages_of bytes) page xs) other []
+        by other below true e = subst (λ o. get_or (pages_of (overlaid bytes (page * 8192) xs)) o [] ≡ get_or (set (pages_of bytes) page xs) o []) (sym (eqb-true other page e)) (page_is (overlaid bytes (page * 8192) xs) page lt ∙ over_page page xs lt long bytes ∙ sym (get_or-set_same (pages_of bytes) page xs [] (omega (arith, some_pages bytes, lt))))
+        by other below false e =
+            let differs : other ≢ page = eqb-false other page e in
+            page_is (overlaid bytes (page * 8192) xs) other below ∙ same_page bytes (overlaid bytes (page * 8192) xs) page other (beside page xs lt long bytes) differs ∙ sym (page_is bytes other below)
+            ∙ sym (get_or-set_other (pages_of bytes) page other xs [] differs)
 
   pub writes_page : (old new : Option (ℕ → ℕ)) → Writes old new (page * 8192) (length xs) xs → WritesPage (option_map pages_of old) (option_map pages_of new) page xs
   writes_page None new h = tt

@@ -60,7 +60,11 @@ fn read_some<F: Read>(file: &mut F, piece: &mut [u8]) -> Result<usize, ReadErr>
 }
 
 // All that a reader gives, of which there are at most `limit` bytes.
-fn read_whole<F: Read>(alloc: Global, file: &mut F, limit: u64) -> Result<Vec<u8>, ReadErr>
+pub(crate) fn read_whole<F: Read>(
+    alloc: Global,
+    file: &mut F,
+    limit: u64,
+) -> Result<Vec<u8>, ReadErr>
     ensures within { IfOk result (λ bytes. vec_len bytes ≤ limit) }
     ensures whole { IfOk result (λ bytes. IfSome (F.remaining file.old) (λ xs. bytes.items ≡ xs)) }
     ensures long { result ≡ Err cause.TooLong → IfSome (F.remaining file.old) (λ xs. limit < length xs) }
@@ -104,12 +108,7 @@ fn open_answer(error: &io::Error) -> ShelfErr
 }
 
 // Opens a file and reads it whole.
-fn fetched<R: Files>(
-    rt: &R,
-    alloc: Global,
-    name: &[u8],
-    limit: u64,
-) -> Result<Vec<u8>, ShelfErr>
+fn fetched<R: Files>(rt: &R, alloc: Global, name: &[u8], limit: u64) -> Result<Vec<u8>, ShelfErr>
     ensures { IfOk result (λ bytes. vec_len bytes ≤ limit) }
 {
     let Ok(path) = str::from_utf8(name) else {

@@ -1,5 +1,7 @@
 ghost use Rattle.std.specs.Prelude.{◌≡◌, ◌<◌, ◌≤◌, None, OnOk, OnErr, IfOk, length, take};
 ghost use Rattle.std.specs.Io.KnownBytes.{Appends, Keeps};
+ghost use Rattle.xp_outside.specs.Outside.{Rose, Stands};
+ghost use Rattle.xprs_cli.specs.Writers.{GetsFront, GetsNothing};
 
 use crate::page_file::is_interrupted;
 use std::io::Write;
@@ -54,7 +56,16 @@ impl<W: Write + Drop> Sink for StdSink<W> {
 
     ghost faults = { λ s. s.faults };
 
-    fn write(&mut self, piece: &[u8]) -> Result<usize, SinkFailed> {
+    fn write(&mut self, piece: &[u8]) -> Result<usize, SinkFailed>
+        requires { 0 < length piece.now }
+        ensures some { IfOk result (λ n. (0 < n) × (n ≤ length piece.now)) }
+        ensures quiet { OnOk result (Stands self.old.faults self.new.faults) }
+        ensures cause { OnErr result (Rose self.old.faults self.new.faults) }
+        ensures count { self.old.faults ≤ self.new.faults }
+        // The writer got the bytes that are told as written, and no others.
+        ensures got { IfOk result (λ n. GetsFront W.contents self.old.writer self.new.writer (take n piece.now)) }
+        ensures none { OnErr result (GetsNothing W.contents self.old.writer self.new.writer) }
+    {
         let written = match &mut self.writer {
             Some(writer) => write_some(writer, piece),
             None => Err(SinkFailed),
