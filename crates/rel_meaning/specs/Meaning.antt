@@ -65,10 +65,15 @@ columns_at (Some table) = map layout_column table.columns
 abbrev pub columns_of : List Table → ℕ → List LayoutColumn
 columns_of db relation = columns_at (slice_get db relation)
 
--- the layout of the range variables, numbered from a number on
+-- the layout of range variables, numbered from a number on, where the relations have these columns
+abbrev pub layout_over : (ℕ → List LayoutColumn) → ℕ → List Var → List LayoutPart
+layout_over columns number [] = []
+layout_over columns number (v ∷ vs) =
+    record { var = number; columns = columns v.relation } ∷ layout_over columns (number + 1) vs
+
+-- the same with the columns of the tables
 abbrev pub layout_from : List Table → ℕ → List Var → List LayoutPart
-layout_from db number [] = []
-layout_from db number (v ∷ vs) = record { var = number; columns = columns_of db v.relation } ∷ layout_from db (number + 1) vs
+layout_from db number vars = layout_over (columns_of db) number vars
 
 abbrev pub layout_of : List Table → List Var → List LayoutPart
 layout_of db vars = layout_from db 0 vars
@@ -84,3 +89,15 @@ pub record IsResolved (db : List Table) (q : Question) : Type 0 where
   pub targets : All (λ target. IsSome (type_of target.expr (column_type (layout_of db q.vars)))) q.targets
   pub test : IfSome q.test (λ test. IsTrue (is_truth (type_of test (column_type (layout_of db q.vars)))))
   pub tables : All IsTable db
+
+-- the columns of a relation, and none where there is no such relation
+abbrev pub listed : List (List LayoutColumn) → ℕ → List LayoutColumn
+listed columns relation = slice_index_or columns relation []
+
+-- a query that may be asked of the tables where their rows fit these columns, of whatever bounds
+pub record CanBeAsked (columns : ℕ → List LayoutColumn) (db : List Table) (q : Question) : Type 0 where
+  pub few : length q.vars < 2 ^ 32
+  pub relations : All (λ v. v.relation < length db) q.vars
+  pub targets : All (λ target. IsSome (type_of target.expr (column_type (layout_over columns 0 q.vars)))) q.targets
+  pub test : IfSome q.test (λ test. IsTrue (is_truth (type_of test (column_type (layout_over columns 0 q.vars)))))
+  pub tables : (relation : ℕ) → All (FitsColumns (columns relation)) (rows_of db relation)

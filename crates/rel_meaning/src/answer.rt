@@ -3,12 +3,15 @@ ghost use Rattle.std.specs.Option.{option_map};
 ghost use Rattle.rel_meaning.specs.Expression.{expression_of, output_of, question_of};
 ghost use Rattle.rel_meaning.specs.Joined.{answers, joined, row_of};
 ghost use Rattle.rows.specs.Layouts.{column_in, column_type, IsRowIn};
-ghost use Rattle.rel_meaning.specs.Meaning.{layout_from, layout_of, layout_column, meaning, passes, project, IsResolved};
+ghost use Rattle.rel_meaning.specs.Meaning.{layout_over, layout_column, listed, meaning, passes, project, CanBeAsked, IsResolved};
 ghost use Rattle.rel_meaning.specs.Typing.{type_of, is_truth};
 
-use crate::{Database, Expr, Query, Target, Var, evaluate};
+use crate::{Database, Expr, Query, Table, Target, Var, evaluate};
 use lists::{Duplicate, Sequence};
-use rows::{ColType, Column, Layout, LayoutColumn, LayoutPart, Row, Rows, Value, arrange_rows};
+use rows::{
+    ColType, Column, Layout, LayoutColumn, LayoutColumnList, LayoutPart, Row, Rows, Value,
+    arrange_rows,
+};
 use std::alloc::{AllocError, Global};
 
 /// The type and the bound that a column has in a layout: the bound of an integer is 2^31.
@@ -105,18 +108,32 @@ fn is_kept(
     }
 }
 
-// The layout of the range variables.
-fn query_layout(alloc: Global, db: &Database, vars: &[Var]) -> Result<Layout, AllocError>
+// The columns of each table as those of a layout.
+fn table_layouts(alloc: Global, tables: &[Table]) -> Result<Vec<LayoutColumnList>, AllocError>
+    ensures { IfOk result (λ v. v.items ≡ map (λ t. map layout_column t.columns) tables.now) }
+{
+    let mut layouts = Vec::new(alloc);
+    for table in tables {
+        layouts.push(Sequence::from_vec(column_layouts(alloc, table.columns.items())?))?;
+    }
+    Ok(layouts)
+}
+
+// The layout of the range variables, where the relations have these columns.
+fn query_layout(
+    alloc: Global,
+    columns: &[LayoutColumnList],
+    vars: &[Var],
+) -> Result<Layout, AllocError>
     requires few { length vars.now < 2 ^ 32 }
-    requires relations { All (λ v. v.relation < length db.now) vars.now }
-    ensures { IfOk result (λ layout. layout ≡ layout_of db.now vars.now) }
+    requires relations { All (λ v. v.relation < length columns.now) vars.now }
+    ensures { IfOk result (λ layout. layout ≡ layout_over (listed columns.now) 0 vars.now) }
 {
     let mut parts = Vec::new(alloc);
     for (number, var) in vars.iter().enumerate() {
-        let columns = db.get(var.relation as usize).columns.items();
         parts.push(LayoutPart {
             var: number as u32,
-            columns: Sequence::from_vec(column_layouts(alloc, columns)?),
+            columns: columns[var.relation as usize].copy(alloc)?,
         })?;
     }
     Ok(Sequence::from_vec(parts))
@@ -168,13 +185,19 @@ fn visit(
     Ok(())
 }
 
-/// The rows that answer a query: its relational meaning, in the order of its keys and then of its targets. An `Err` is
-/// want of memory.
-pub fn answer_plain(alloc: Global, db: &Database, query: &Query) -> Result<Rows, AllocError>
-    requires { IsResolved db.now (question_of query.now) }
+/// The rows that answer a query, where the rows of each relation fit the columns that are given for it, of whatever
+/// bounds: its relational meaning, in the order of its keys and then of its targets. An `Err` is want of memory.
+pub fn answer_over(
+    alloc: Global,
+    db: &Database,
+    columns: &[LayoutColumnList],
+    query: &Query,
+) -> Result<Rows, AllocError>
+    requires each { length columns.now ≡ length db.now }
+    requires asked { CanBeAsked (listed columns.now) db.now (question_of query.now) }
     ensures { IfOk result (λ rows. rows ≡ meaning db.now (question_of query.now)) }
 {
-    let layout = query_layout(alloc, db, query.vars.items())?;
+    let layout = query_layout(alloc, columns, query.vars.items())?;
     let front = Sequence::new(alloc);
     let mut rows = Vec::new(alloc);
     visit(
@@ -188,4 +211,14 @@ pub fn answer_plain(alloc: Global, db: &Database, query: &Query) -> Result<Rows,
     )?;
     arrange_rows(&mut rows, query.unique, query.keys.items())?;
     Ok(Sequence::from_vec(rows))
+}
+
+/// The rows that answer a query of tables whose integers have 32 bits: its relational meaning, in the order of its keys and
+/// then of its targets. An `Err` is want of memory.
+pub fn answer_plain(alloc: Global, db: &Database, query: &Query) -> Result<Rows, AllocError>
+    requires { IsResolved db.now (question_of query.now) }
+    ensures { IfOk result (λ rows. rows ≡ meaning db.now (question_of query.now)) }
+{
+    let columns = table_layouts(alloc, db.items())?;
+    answer_over(alloc, db, columns.as_slice(), query)
 }

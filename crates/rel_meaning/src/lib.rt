@@ -9,7 +9,7 @@ mod meeting;
 mod query;
 mod view;
 
-pub use answer::{answer_plain, column_layout, target_values};
+pub use answer::{answer_over, answer_plain, column_layout, target_values};
 pub use evaluation::{column_value, evaluate};
 pub use expr::{ArithOp, CompareOp, Expr};
 pub use meeting::meets_view;
