@@ -1,5 +1,5 @@
 -- Databases that are read back from drives.
-use Rattle.std.proofs.Common.{◌≡◌, ℕ, ◌+◌, List, [], ◌∷◌, ◌++◌, length, map, take, Option, Some, Result, Err, refl, sym, ap, ap₂, subst, ◌∙◌, arith}
+use Rattle.std.proofs.Common.{◌≡◌, ℕ, ◌+◌, List, [], ◌∷◌, ◌++◌, length, map, take, Option, None, Some, Result, Err, refl, sym, ap, ap₂, subst, ◌∙◌, arith}
 use Rattle.std.specs.Prelude.{slice_get, All}
 use Rattle.std.proofs.lemmas.List.{length-map, map-append}
 use Rattle.std.proofs.lemmas.List.Elements.{All-push}
@@ -9,8 +9,8 @@ use Rattle.xp_outside.specs.declared.drive.Drive.{Ghosts}
 use Rattle.heap_page.specs.declared.errors.BadPage.{BadPage}
 use Rattle.heap_page.specs.declared.errors.FetchErr.{FetchErr}
 use Rattle.heap_page.specs.declared.errors.FetchErr.TheVariants as fetch
-use Rattle.heap_page.specs.Maps.{HasPage}
-use Rattle.heap_page.specs.Stores.{AreRead, HaveRoom}
+use Rattle.heap_page.specs.Maps.{HasPage, address_of, drive_of}
+use Rattle.heap_page.specs.Stores.{AreQuiet, AreRead, HaveRoom}
 use Rattle.heap_page.proofs.Found.{get_below, there}
 use Rattle.rows.specs.declared.plain.Column.{Column}
 use Rattle.rows.specs.declared.plain.Relation.{Relation}
@@ -19,10 +19,11 @@ use Rattle.rows.specs.RowBytes.{IsRowOf}
 use Rattle.rel_meaning.specs.declared.query.Table.{Table}
 use Rattle.table_store.specs.declared.database.Laid.{Laid}
 use Rattle.table_store.specs.Databases.{ReadCause, TellTables}
-use Rattle.table_store.specs.Readings.{TableCause, TellRows}
+use Rattle.table_store.specs.Readings.{TableCause, TellRows, TellsBreak}
 use Rattle.table_store.proofs.Again.{tell_kept}
 use Rattle.table_store.proofs.Encoded.{take_one}
-use Rattle.table_store.proofs.Pages.{fault_earlier, read_none, read_trans}
+use Rattle.heap_page.proofs.Drives.{fault_earlier, quiet_none, quiet_trans, read_none, read_trans}
+use Rattle.table_store.proofs.Pages.{cause_earlier}
 
 abbrev pub columns_of_tables : List Table → List (List Column)
 columns_of_tables db = map (λ (t : Table). t.columns) db
@@ -46,26 +47,32 @@ same_table : (a b : Table) → a.columns ≡ b.columns → a.rows ≡ b.rows →
 same_table a b e f = ap₂ (λ (cs : List Column) (rs : List (List Value)). record { columns = cs; rows = rs }) e f
 
 module _ {D : Type 0} (g : Ghosts D) (laid : Laid) where
-  pub read_cause : (file : ℕ) (columns : List Column) (olds news : List D) (e : FetchErr) → TableCause g laid.map file columns olds news e → ReadCause g laid olds news e
-  read_cause file columns olds news (fetch.DriveFault d) h = h
-  read_cause file columns olds news (fetch.BadPage bad) h = subst (λ (f : ℕ). HasPage laid.map.files.items f bad.page) (sym h.0) h.1
-  read_cause file columns olds news fetch.NoMemory h = tt
-
-  pub cause_earlier : (us bs cs : List D) (e : FetchErr) → AreRead g us bs → ReadCause g laid bs cs e → ReadCause g laid us cs e
-  cause_earlier us bs cs (fetch.DriveFault d) h k = fault_earlier g us bs cs d h k
-  cause_earlier us bs cs (fetch.BadPage bad) h k = k
-  cause_earlier us bs cs fetch.NoMemory h k = tt
+  pub read_cause : (relations : List Relation) (place heap : ℕ) (relation : Relation) (us bs cs : List D) (e : FetchErr) → slice_get relations place ≡ Some relation → slice_get laid.heaps.items place ≡ Some heap →
+      AreRead g us bs → TableCause g laid.map heap relation.columns bs cs e → ReadCause g relations laid us cs e
+  read_cause relations place heap relation us bs cs (fetch.DriveFault d) here number h k = fault_earlier g us bs cs d h k
+  read_cause relations place heap relation us bs cs (fetch.BadPage bad) here number h k =
+      let early = cause_earlier g laid.map heap relation.columns us bs cs (fetch.BadPage bad) h k in
+      record {
+        place = place;
+        relation = relation;
+        here = here;
+        heap = rw early.0 number;
+        page = subst (λ (f : ℕ). HasPage laid.map.files.items f bad.page) (sym early.0) early.1;
+        breaks = subst (λ (f : ℕ). (drive : D) → slice_get us (drive_of laid.map bad.page) ≡ Some drive → TellsBreak (g.pages drive) (address_of laid.map f bad.page) relation.columns f bad) (sym early.0) early.2;
+      }
+  read_cause relations place heap relation us bs cs fetch.NoMemory here number h k = tt
 
   -- the tables so far
   pub record Back (relations : List Relation) (olds : List D) (count : ℕ) (tables : List Table) (news : List D) : Type 0 where
     pub read : AreRead g olds news
+    pub quiet : AreQuiet g None olds news
     pub columns : columns_of_tables tables ≡ columns_of_relations (take count relations)
     pub typed : All (λ t. All (IsRowOf t.columns) t.rows) tables
     pub again : (db : List Table) → columns_of_tables db ≡ columns_of_relations relations → TellTables g laid db olds → tables ≡ take count db
     pub room : HaveRoom g laid.map news
 
   pub none_back : (relations : List Relation) (olds : List D) → HaveRoom g laid.map olds → Back relations olds 0 [] olds
-  none_back relations olds room = record { read = read_none g olds; columns = refl; typed = λ k d lt. absurd (omega (arith, lt)); again = λ db e t. refl; room = room }
+  none_back relations olds room = record { read = read_none g olds; quiet = quiet_none g None olds; columns = refl; typed = λ k d lt. absurd (omega (arith, lt)); again = λ db e t. refl; room = room }
 
   -- the next table of a database that the drives tell
   pub next : (relations : List Relation) (olds : List D) (count : ℕ) (tables : List Table) (news : List D) (relation : Relation) (heap : ℕ) → Back relations olds count tables news →
@@ -78,10 +85,11 @@ module _ {D : Type 0} (g : Ghosts D) (laid : Laid) where
       (t.0, t.1, same, tell_kept g laid.map olds news heap relation.columns t.0.rows h.read (subst (λ (cs : List Column). TellRows g laid.map heap cs t.0.rows olds) same rows))
 
   pub one_back : (relations : List Relation) (olds : List D) (count : ℕ) (tables : List Table) (mids news : List D) (relation : Relation) (heap : ℕ) (table : Table) → Back relations olds count tables mids →
-      slice_get relations count ≡ Some relation → slice_get laid.heaps.items count ≡ Some heap → AreRead g mids news → HaveRoom g laid.map news → table.columns ≡ relation.columns → All (IsRowOf table.columns) table.rows →
+      slice_get relations count ≡ Some relation → slice_get laid.heaps.items count ≡ Some heap → AreRead g mids news → AreQuiet g None mids news → HaveRoom g laid.map news → table.columns ≡ relation.columns → All (IsRowOf table.columns) table.rows →
       ((rows : List (List Value)) → TellRows g laid.map heap relation.columns rows mids → table.rows ≡ rows) → Back relations olds (count + 1) (tables ++ table ∷ []) news
-  one_back relations olds count tables mids news relation heap table h here number read room columns typed again = record {
+  one_back relations olds count tables mids news relation heap table h here number read quiet room columns typed again = record {
     read = read_trans g olds mids news h.read read;
+    quiet = quiet_trans g None olds mids news h.read.len h.quiet quiet;
     columns = map-append (λ (t : Table). t.columns) tables (table ∷ []) ∙ (ap₂ (λ (xs : List (List Column)) (cs : List Column). xs ++ cs ∷ []) h.columns columns ∙
         (sym (map-append (λ (r : Relation). r.columns) (take count relations) (relation ∷ [])) ∙ ap columns_of_relations (sym (take_one relations count relation here))));
     typed = All-push (λ (t : Table). All (IsRowOf t.columns) t.rows) tables table h.typed typed;

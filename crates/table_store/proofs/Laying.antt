@@ -219,7 +219,7 @@ module _ {D : Type 0} (g : Ghosts D) (map_of : FileMap) (tables : List StoredTab
 module _ {D : Type 0} (g : Ghosts D) where
   pub lay_cause : (tables : List StoredTable) (map_of : FileMap) (P : ℕ → ℕ → Type 0) (olds news : List D) (e : StoreErr) → IsMapOf tables (length olds) map_of → AreWritten g P olds news → StoreCause g map_of olds news e → LayCause g tables olds news e
   lay_cause tables map_of P olds news (DriveFault d) of wrote h = (map_of, of, room_kept g map_of P olds news wrote h.0, h.1)
-  lay_cause tables map_of P olds news (DriveFull d needs capacity) of wrote h = (map_of, of, subst (IsFull g map_of d needs capacity) (sym h.1) h.0)
+  lay_cause tables map_of P olds news (DriveFull d needs capacity) of wrote h = (map_of, of, subst (IsFull g map_of d needs capacity) (sym h.1) h.0, h.1)
   lay_cause tables map_of P olds news NoMemory of wrote h = tt
 
   -- ---- a database

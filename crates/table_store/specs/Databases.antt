@@ -2,12 +2,13 @@
 use Rattle.std.specs.Prelude.{◌≡◌, ℕ, ◌<◌, ◌≤◌, List, length, slice_get, Option, Some, None, is_some, IfSome, All, ⊤}
 use Rattle.xp_outside.specs.Drives.{IsFresh}
 use Rattle.xp_outside.specs.declared.drive.Drive.{Ghosts}
+use Rattle.heap_page.specs.declared.errors.BadPage.{BadPage}
 use Rattle.heap_page.specs.declared.errors.FetchErr.{FetchErr}
 use Rattle.heap_page.specs.declared.errors.FetchErr.TheVariants as fetch
 use Rattle.heap_page.specs.declared.errors.StoreErr.{StoreErr}
 use Rattle.heap_page.specs.declared.errors.StoreErr.TheVariants as store
 use Rattle.heap_page.specs.declared.map.FileMap.{FileMap}
-use Rattle.heap_page.specs.Maps.{IsMap, HasPage}
+use Rattle.heap_page.specs.Maps.{IsMap, HasPage, address_of, drive_of}
 use Rattle.heap_page.specs.Stores.{HaveRoom, IsFault, IsFull}
 use Rattle.rows.specs.declared.plain.Column.{Column}
 use Rattle.rows.specs.declared.plain.KeyIndex.{KeyIndex}
@@ -21,7 +22,7 @@ use Rattle.table_store.specs.declared.database.Laid.{Laid}
 use Rattle.table_store.specs.Entries.{IsIndexOf, type_at}
 use Rattle.table_store.specs.Files.{IsStorable, encodings, file_number, files_of, index_numbers, table_blocks}
 use Rattle.table_store.specs.Images.{HoldImage}
-use Rattle.table_store.specs.Readings.{AllTell, TellRows}
+use Rattle.table_store.specs.Readings.{AllTell, TellRows, TellsBreak}
 
 -- at most 1,000,000 rows, and none with an encoding of more than 8,168 bytes
 abbrev pub AreShort : List Column → List (List Value) → Type 0
@@ -95,10 +96,10 @@ module _ {D : Type 0} (g : Ghosts D) where
   TellTables laid db drives =
       (i : ℕ) (table : Table) (heap : ℕ) → slice_get db i ≡ Some table → slice_get laid.heaps.items i ≡ Some heap → TellRows g laid.map heap table.columns table.rows drives
 
-  -- why tables are not laid: by a map of them some drive is full, or each has room and one has failed
+  -- why tables are not laid: by a map of them some drive is full, and the drives are as they were, or each has room and one has failed
   abbrev pub LayCause : List StoredTable → List D → List D → StoreErr → Type 0
   LayCause tables olds news (store.DriveFault d) = (map_of : FileMap) × IsMapOf tables (length olds) map_of × HaveRoom g map_of news × IsFault g d olds news
-  LayCause tables olds news (store.DriveFull d needs capacity) = (map_of : FileMap) × IsMapOf tables (length olds) map_of × IsFull g map_of d needs capacity news
+  LayCause tables olds news (store.DriveFull d needs capacity) = (map_of : FileMap) × IsMapOf tables (length olds) map_of × IsFull g map_of d needs capacity news × (news ≡ olds)
   LayCause tables olds news store.NoMemory = ⊤
 
   -- A database that is laid on drives: its tables stand there as they are stored, and nothing else.
@@ -116,8 +117,18 @@ module _ {D : Type 0} (g : Ghosts D) where
   LayoutCause relations db olds news store.NoMemory = ⊤
   LayoutCause relations db olds news e = (tables : List StoredTable) × AreStored relations db tables × LayCause tables olds news e
 
+  -- a page of a relation's heap file, and where its drive tells, the first rule that the told page breaks
+  pub record IsBadOf (relations : List Relation) (laid : Laid) (drives : List D) (bad : BadPage) : Type 0 where
+    pub place : ℕ
+    pub relation : Relation
+    pub here : slice_get relations place ≡ Some relation
+    pub heap : slice_get laid.heaps.items place ≡ Some bad.file
+    pub page : HasPage laid.map.files.items bad.file bad.page
+    pub breaks : (drive : D) → slice_get drives (drive_of laid.map bad.page) ≡ Some drive →
+        TellsBreak (g.pages drive) (address_of laid.map bad.file bad.page) relation.columns bad.file bad
+
   -- why a database is not read: a drive has failed, or a page of a heap file breaks a rule
-  abbrev pub ReadCause : Laid → List D → List D → FetchErr → Type 0
-  ReadCause laid olds news (fetch.DriveFault d) = IsFault g d olds news
-  ReadCause laid olds news (fetch.BadPage bad) = HasPage laid.map.files.items bad.file bad.page
-  ReadCause laid olds news fetch.NoMemory = ⊤
+  abbrev pub ReadCause : List Relation → Laid → List D → List D → FetchErr → Type 0
+  ReadCause relations laid olds news (fetch.DriveFault d) = IsFault g d olds news
+  ReadCause relations laid olds news (fetch.BadPage bad) = IsBadOf relations laid olds bad
+  ReadCause relations laid olds news fetch.NoMemory = ⊤

@@ -94,7 +94,7 @@ module _ {D : Type 0} (g : Ghosts D) where
       abbrev NeverBad : FetchErr → Type 0
       NeverBad e = (bad : BadPage) → TellTables g laid db mids → ◌≡◌ {A = FetchErr} e (fetch.BadPage bad) → ⊥
 
-      pub read_made : (goal : Goal) (e : FetchErr) → ReadCause g laid mids news e → NeverBad e → Makes g (over goal checked db) before now news (Err (of_fetch e))
+      pub read_made : (goal : Goal) (e : FetchErr) → ReadCause g checked.catalog laid mids news e → NeverBad e → Makes g (over goal checked db) before now news (Err (of_fetch e))
       read_made goal (fetch.DriveFault d) cause never = (is_fit, record { drive = cause.new; here = cause.is; some = omega (arith, cause.rose) })
       read_made goal (fetch.BadPage bad) cause never = (is_fit, untold news (λ all. never bad (tell_mids all) refl))
       read_made goal fetch.NoMemory cause never = tt
