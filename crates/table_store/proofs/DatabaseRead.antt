@@ -1,5 +1,5 @@
 -- Databases that are read back from drives.
-use Rattle.std.proofs.Common.{◌≡◌, ℕ, ◌+◌, List, [], ◌∷◌, ◌++◌, length, map, take, Option, Some, Result, Err, refl, sym, ap, ap₂, subst, ◌∙◌, arith}
+use Rattle.std.proofs.Common.{◌≡◌, ℕ, ◌+◌, List, [], ◌∷◌, ◌++◌, length, map, take, Option, None, Some, Result, Err, refl, sym, ap, ap₂, subst, ◌∙◌, arith}
 use Rattle.std.specs.Prelude.{slice_get, All}
 use Rattle.std.proofs.lemmas.List.{length-map, map-append}
 use Rattle.std.proofs.lemmas.List.Elements.{All-push}
@@ -10,7 +10,7 @@ use Rattle.heap_page.specs.declared.errors.BadPage.{BadPage}
 use Rattle.heap_page.specs.declared.errors.FetchErr.{FetchErr}
 use Rattle.heap_page.specs.declared.errors.FetchErr.TheVariants as fetch
 use Rattle.heap_page.specs.Maps.{address_of}
-use Rattle.heap_page.specs.Stores.{AreRead, HaveRoom}
+use Rattle.heap_page.specs.Stores.{AreQuiet, AreRead, HaveRoom}
 use Rattle.heap_page.proofs.Found.{get_below, there}
 use Rattle.rows.specs.declared.plain.Column.{Column}
 use Rattle.rows.specs.declared.plain.Relation.{Relation}
@@ -22,7 +22,8 @@ use Rattle.table_store.specs.Databases.{ReadCause, TellTables}
 use Rattle.table_store.specs.Readings.{TableCause, TellRows, TellsBreak}
 use Rattle.table_store.proofs.Again.{tell_kept}
 use Rattle.table_store.proofs.Encoded.{take_one}
-use Rattle.table_store.proofs.Pages.{cause_earlier, read_none, read_trans}
+use Rattle.heap_page.proofs.Drives.{fault_earlier, quiet_none, quiet_trans, read_none, read_trans}
+use Rattle.table_store.proofs.Pages.{cause_earlier}
 
 abbrev pub columns_of_tables : List Table → List (List Column)
 columns_of_tables db = map (λ (t : Table). t.columns) db
@@ -68,13 +69,14 @@ module _ {D : Type 0} (g : Ghosts D) (laid : Laid) where
   -- the tables so far
   pub record Back (relations : List Relation) (olds : List D) (count : ℕ) (tables : List Table) (news : List D) : Type 0 where
     pub read : AreRead g olds news
+    pub quiet : AreQuiet g None olds news
     pub columns : columns_of_tables tables ≡ columns_of_relations (take count relations)
     pub typed : All (λ t. All (IsRowOf t.columns) t.rows) tables
     pub again : (db : List Table) → columns_of_tables db ≡ columns_of_relations relations → TellTables g laid db olds → tables ≡ take count db
     pub room : HaveRoom g laid.map news
 
   pub none_back : (relations : List Relation) (olds : List D) → HaveRoom g laid.map olds → Back relations olds 0 [] olds
-  none_back relations olds room = record { read = read_none g olds; columns = refl; typed = λ k d lt. absurd (omega (arith, lt)); again = λ db e t. refl; room = room }
+  none_back relations olds room = record { read = read_none g olds; quiet = quiet_none g None olds; columns = refl; typed = λ k d lt. absurd (omega (arith, lt)); again = λ db e t. refl; room = room }
 
   -- the next table of a database that the drives tell
   pub next : (relations : List Relation) (olds : List D) (count : ℕ) (tables : List Table) (news : List D) (relation : Relation) (heap : ℕ) → Back relations olds count tables news →
@@ -87,10 +89,11 @@ module _ {D : Type 0} (g : Ghosts D) (laid : Laid) where
       (t.0, t.1, same, tell_kept g laid.map olds news heap relation.columns t.0.rows h.read (subst (λ (cs : List Column). TellRows g laid.map heap cs t.0.rows olds) same rows))
 
   pub one_back : (relations : List Relation) (olds : List D) (count : ℕ) (tables : List Table) (mids news : List D) (relation : Relation) (heap : ℕ) (table : Table) → Back relations olds count tables mids →
-      slice_get relations count ≡ Some relation → slice_get laid.heaps.items count ≡ Some heap → AreRead g mids news → HaveRoom g laid.map news → table.columns ≡ relation.columns → All (IsRowOf table.columns) table.rows →
+      slice_get relations count ≡ Some relation → slice_get laid.heaps.items count ≡ Some heap → AreRead g mids news → AreQuiet g None mids news → HaveRoom g laid.map news → table.columns ≡ relation.columns → All (IsRowOf table.columns) table.rows →
       ((rows : List (List Value)) → TellRows g laid.map heap relation.columns rows mids → table.rows ≡ rows) → Back relations olds (count + 1) (tables ++ table ∷ []) news
-  one_back relations olds count tables mids news relation heap table h here number read room columns typed again = record {
+  one_back relations olds count tables mids news relation heap table h here number read quiet room columns typed again = record {
     read = read_trans g olds mids news h.read read;
+    quiet = quiet_trans g None olds mids news h.read.len h.quiet quiet;
     columns = map-append (λ (t : Table). t.columns) tables (table ∷ []) ∙ (ap₂ (λ (xs : List (List Column)) (cs : List Column). xs ++ cs ∷ []) h.columns columns ∙
         (sym (map-append (λ (r : Relation). r.columns) (take count relations) (relation ∷ [])) ∙ ap columns_of_relations (sym (take_one relations count relation here))));
     typed = All-push (λ (t : Table). All (IsRowOf t.columns) t.rows) tables table h.typed typed;

@@ -11,9 +11,10 @@ use Rattle.heap_page.specs.declared.map.FileMap.{FileMap}
 use Rattle.heap_page.specs.Blocks.{joined}
 use Rattle.heap_page.specs.Maps.{address_of, drive_of, HasPage, HasPages}
 use Rattle.heap_page.specs.Pages.{items_of}
-use Rattle.heap_page.specs.Stores.{AreRead, IsFault, HaveRoom}
-use Rattle.heap_page.proofs.Drives.{rose_earlier}
-use Rattle.heap_page.proofs.Found.{get_below, one_at, there}
+use Rattle.heap_page.specs.Stores.{AreQuiet, AreRead}
+pub use Rattle.heap_page.proofs.Drives.{fault_earlier, read_none, read_trans, room_read}
+use Rattle.heap_page.proofs.Drives.{quiet_none, quiet_trans}
+use Rattle.heap_page.proofs.Found.{get_below, there}
 use Rattle.rows.specs.declared.plain.Column.{Column}
 use Rattle.rows.specs.declared.value.Value.{Value}
 use Rattle.table_store.specs.Readings.{ArePageRows, AreFileRows, Breaks, TableCause, TellsBreak}
@@ -31,37 +32,9 @@ joined_last [] page = append-nil (items_of page)
 joined_last (p ∷ ps) page = ap (λ (ys : List (List ℕ)). items_of p ++ ys) (joined_last ps page) ∙ sym (append_assoc (items_of p) (joined (map items_of ps)) (items_of page))
 
 module _ {D : Type 0} (g : Ghosts D) where
-  pub read_none : (us : List D) → AreRead g us us
-  read_none us = record {
-    len = refl;
-    each = λ d a b at_a at_b.
-        let e : a ≡ b = one_at us d a b at_a at_b in
-        rw e (record { size = refl; count = omega arith; told = refl });
-  }
-
-  pub read_trans : (us bs cs : List D) → AreRead g us bs → AreRead g bs cs → AreRead g us cs
-  read_trans us bs cs h k = record {
-    len = k.len ∙ h.len;
-    each = λ d a c at_a at_c.
-        let b = there bs d (omega (arith, get_below us d a at_a, h.len)) in
-        let one = h.each d a b.0 at_a b.1 in
-        let two = k.each d b.0 c b.1 at_c in
-        record { size = two.size ∙ one.size; count = omega (arith, one.count, two.count); told = two.told ∙ one.told };
-  }
-
-  pub room_read : (map_of : FileMap) (us bs : List D) → AreRead g us bs → HaveRoom g map_of us → HaveRoom g map_of bs
-  room_read map_of us bs h room = λ d b at_b.
-      let a = there us d (omega (arith, get_below bs d b at_b, h.len)) in
-      omega (arith, (h.each d a.0 b a.1 at_b).size, room d a.0 a.1)
-
-  pub fault_earlier : (us bs cs : List D) (d : ℕ) → AreRead g us bs → IsFault g d bs cs → IsFault g d us cs
-  fault_earlier us bs cs d h f =
-      let a = there us d (omega (arith, get_below bs d f.old f.was, h.len)) in
-      record { old = a.0; new = f.new; was = a.1; is = f.is; rose = rose_earlier _ _ _ (h.each d a.0 f.old a.1 f.was).count f.rose }
-
   module _ (map_of : FileMap) (file : ℕ) (columns : List Column) where
     pub cause_earlier : (us bs cs : List D) (e : FetchErr) → AreRead g us bs → TableCause g map_of file columns bs cs e → TableCause g map_of file columns us cs e
-    cause_earlier us bs cs (fetch.DriveFault d) h cause = fault_earlier us bs cs d h cause
+    cause_earlier us bs cs (fetch.DriveFault d) h cause = fault_earlier g us bs cs d h cause
     cause_earlier us bs cs (fetch.BadPage bad) h cause = (
       cause.0,
       cause.1,
@@ -78,13 +51,15 @@ module _ {D : Type 0} (g : Ghosts D) where
       pub len : length pages ≡ number
       pub rows_are : ArePageRows g map_of file columns olds pages rows
       pub read : AreRead g olds news
+      pub quiet : AreQuiet g None olds news
 
     pub starts : (olds : List D) → Reading olds 0 [] olds
     starts olds = record {
       pages = [];
       len = refl;
       rows_are = record { told = λ n p d at at_d. absurd (let h = get_below [] n p at in omega (arith, h)); sound = λ n p at. absurd (let h = get_below [] n p at in omega (arith, h)); decoded = tt };
-      read = read_none olds;
+      read = read_none g olds;
+      quiet = quiet_none g None olds;
     }
 
     page_told : (us bs : List D) (number : ℕ) (page : List ℕ) → AreRead g us bs → ((drive : D) → slice_get bs (drive_of map_of number) ≡ Some drive → ReadsPage (g.pages drive) (address_of map_of file number) page) →
@@ -94,9 +69,9 @@ module _ {D : Type 0} (g : Ghosts D) where
         let same = (h.each (drive_of map_of number) a b.0 at_a b.1).told in
         subst (λ (ps : Option (List (List ℕ))). ReadsPage ps (address_of map_of file number) page) same (told b.0 b.1)
 
-    pub more : (olds bs cs : List D) (number : ℕ) (rows rows2 : List (List Value)) → Reading olds number rows bs → IsStep g map_of file columns bs number rows rows2 → AreRead g bs cs →
+    pub more : (olds bs cs : List D) (number : ℕ) (rows rows2 : List (List Value)) → Reading olds number rows bs → IsStep g map_of file columns bs number rows rows2 → AreRead g bs cs → AreQuiet g None bs cs →
         Reading olds (number + 1) rows2 cs
-    more olds bs cs number rows rows2 r s k = record {
+    more olds bs cs number rows rows2 r s k q = record {
       pages = r.pages ++ s.page ∷ [];
       len = length-append r.pages (s.page ∷ []) ∙ omega (arith, r.len);
       rows_are = record {
@@ -115,7 +90,8 @@ module _ {D : Type 0} (g : Ghosts D) where
         ];
         decoded = rw (joined_last r.pages s.page, s.added.1) (encoded_append columns rows (joined (map items_of r.pages)) s.added.0 (items_of s.page) r.rows_are.decoded s.added.2);
       };
-      read = read_trans olds bs cs r.read k;
+      read = read_trans g olds bs cs r.read k;
+      quiet = quiet_trans g None olds bs cs r.read.len r.quiet q;
     } where
       told_at : (n number : ℕ) (p page : List ℕ) (us : List D) → n ≡ number → page ≡ p →
           ((drive : D) → slice_get us (drive_of map_of number) ≡ Some drive → ReadsPage (g.pages drive) (address_of map_of file number) page) →

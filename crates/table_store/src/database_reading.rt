@@ -3,7 +3,7 @@ ghost use Rattle.std.specs.Prelude.{◌≡◌, ◌<◌, ℕ, List, [], Some, Err
 ghost use Rattle.heap_page.specs.declared.errors.BadPage.{BadPage};
 ghost use Rattle.heap_page.specs.declared.errors.FetchErr.TheVariants as fetch;
 ghost use Rattle.heap_page.specs.Maps.{IsMap};
-ghost use Rattle.heap_page.specs.Stores.{AreRead, HaveRoom};
+ghost use Rattle.heap_page.specs.Stores.{AreQuiet, AreRead, HaveRoom, fetch_fault};
 ghost use Rattle.rows.specs.declared.plain.Column.{Column};
 ghost use Rattle.rows.specs.declared.value.Value.{Value};
 ghost use Rattle.rows.specs.RowBytes.{IsRowOf};
@@ -34,6 +34,7 @@ fn read_relation<D: Drive>(
     requires heap { heap < length laid.now.map.files.items }
     requires room { HaveRoom D.Drive laid.now.map drives.old }
     ensures read { AreRead D.Drive drives.old drives.new }
+    ensures quiet { AreQuiet D.Drive (fetch_fault result) drives.old drives.new }
     ensures room { HaveRoom D.Drive laid.now.map drives.new }
     ensures columns { IfOk result (λ table. table.columns ≡ relation.now.columns) }
     ensures typed { IfOk result (λ table. All (IsRowOf table.columns) table.rows) }
@@ -60,8 +61,9 @@ fn rows_of(alloc: Global, table: Option<Table>) -> Rows
 
 /// The tables of a database that was laid on drives, read back page by page. They have the columns of the relations, and
 /// their rows are of these columns, whatever the drives tell. Drives that tell the rows of a database give just that
-/// database, and no `BadPage`. `DriveFault` comes only where that drive's count rises. `BadPage` has a page of a relation's
-/// heap file and the first rule that what was read of it breaks: the told page where its drive tells. Each drive keeps its number of pages and all that it tells. The rows take the places of those
+/// database, and no `BadPage`. `DriveFault` comes only where that drive's count rises, and no other count does. `BadPage` has a
+/// page of a relation's heap file and the first rule that what was read of it breaks: the told page where its drive tells.
+/// Each drive keeps its number of pages and all that it tells. The rows take the places of those
 /// of `spent`, whatever these are: each of them is given up when a row is read, so that its memory serves the next one.
 pub fn read_database<D: Drive>(
     alloc: Global,
@@ -76,6 +78,7 @@ pub fn read_database<D: Drive>(
     requires heaps { All (λ heap. heap < length laid.now.map.files.items) laid.now.heaps.items }
     requires room { HaveRoom D.Drive laid.now.map drives.old }
     ensures read { AreRead D.Drive drives.old drives.new }
+    ensures quiet { AreQuiet D.Drive (fetch_fault result) drives.old drives.new }
     ensures columns { IfOk result (λ db. map (λ t. t.columns) db ≡ map (λ r. r.columns) catalog.now) }
     ensures typed { IfOk result (All (λ t. All (IsRowOf t.columns) t.rows)) }
     ensures again { (db : List Table) → map (λ t. t.columns) db ≡ map (λ r. r.columns) catalog.now → TellTables D.Drive laid.now db drives.old → IfOk result (λ found. found ≡ db) }

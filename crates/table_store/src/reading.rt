@@ -6,7 +6,7 @@ ghost use Rattle.heap_page.specs.Maps.{IsMap, HasPage, HasPages};
 ghost use Rattle.rows.specs.declared.plain.Column.{Column};
 ghost use Rattle.rows.specs.declared.value.Value.{Value};
 ghost use Rattle.rows.specs.RowBytes.{IsRowOf};
-ghost use Rattle.heap_page.specs.Stores.{AreRead, HaveRoom};
+ghost use Rattle.heap_page.specs.Stores.{AreQuiet, AreRead, HaveRoom, fetch_fault};
 ghost use Rattle.table_store.specs.Readings.{AreFileRows, TableCause, TellRows};
 ghost use Rattle.table_store.specs.Steps.{IsStep};
 
@@ -33,6 +33,7 @@ fn read_page_rows<D: Drive>(
     requires page { HasPage map.now.files.items file number }
     requires room { HaveRoom D.Drive map.now drives.old }
     ensures read { AreRead D.Drive drives.old drives.new }
+    ensures quiet { AreQuiet D.Drive (fetch_fault result) drives.old drives.new }
     ensures ok { OnOk result (IsStep D.Drive map.now file columns.now drives.old number rows.old rows.new) }
     ensures err { IfErr result (TableCause D.Drive map.now file columns.now drives.old drives.new) }
 {
@@ -55,6 +56,7 @@ fn read_pages<D: Drive>(
     requires pages { HasPages map.now.files.items file count }
     requires room { HaveRoom D.Drive map.now drives.old }
     ensures read { AreRead D.Drive drives.old drives.new }
+    ensures quiet { AreQuiet D.Drive (fetch_fault result) drives.old drives.new }
     ensures ok { IfOk result (λ rows. AreFileRows D.Drive map.now file columns.now drives.old rows.items) }
     ensures err { IfErr result (TableCause D.Drive map.now file columns.now drives.old drives.new) }
 {
@@ -67,7 +69,7 @@ fn read_pages<D: Drive>(
 
 /// The rows of a table's file, read page by page in order. They are rows of the columns, whatever the drives tell; each
 /// page breaks none of a heap page's rules, its items are the encodings of its rows (rule 9), and it is the page at its
-/// address, where the drive tells. `DriveFault` comes only where that drive's count rises. `BadPage` has the first rule
+/// address, where the drive tells. `DriveFault` comes only where that drive's count rises, and no other count does. `BadPage` has the first rule
 /// that a page of the file breaks. Drives that tell the pages of some rows give just these rows, and no `BadPage`. Each drive
 /// keeps its number of pages and all that it tells. The rows take the places of `spent`, whatever these are: each of them
 /// is given up when a row is read, so that its memory serves the next one.
@@ -84,6 +86,7 @@ pub fn read_table<D: Drive>(
     requires file { file < length map.now.files.items }
     requires room { HaveRoom D.Drive map.now drives.old }
     ensures read { AreRead D.Drive drives.old drives.new }
+    ensures quiet { AreQuiet D.Drive (fetch_fault result) drives.old drives.new }
     ensures room { HaveRoom D.Drive map.now drives.new }
     ensures kept { (other : ℕ) (columns : List Column) (rows : List (List Value)) → TellRows D.Drive map.now other columns rows drives.old → TellRows D.Drive map.now other columns rows drives.new }
     ensures rows { IfOk result (AreFileRows D.Drive map.now file columns.now drives.old) }

@@ -1,5 +1,6 @@
 use Rattle.std.proofs.lemmas.Result.{err_from_is_err_and}
-use Rattle.table_store.proofs.Pages.{room_read, read_trans, cause_earlier, more, starts}
+use Rattle.heap_page.proofs.Drives.{quiet_trans, read_trans, room_read}
+use Rattle.table_store.proofs.Pages.{cause_earlier, more, starts}
 use Rattle.table_store.proofs.reading.read_pages.Goals as goal
 
 pub loop-number-init : goal.loop-number-init
@@ -20,4 +21,9 @@ returns-in_err-read_page_rows-clause-err g c =
 pub loop-number-preserved : goal.loop-number-preserved
 loop-number-preserved g c =
     more g.D.Drive c.args.map.now c.args.file c.args.columns.now c.args.drives.now c.loop-number.drives c.read_page_rows.new.drives c.loop-number.number c.loop-number.rows c.read_page_rows.new.rows
-    c.loop-number.invariant c.in_ok-read_page_rows.ensures.ok c.read_page_rows.ensures.read
+    c.loop-number.invariant c.in_ok-read_page_rows.ensures.ok c.read_page_rows.ensures.read c.in_ok-read_page_rows.ensures.quiet
+
+pub returns-in_err-read_page_rows-clause-quiet : goal.returns-in_err-read_page_rows-clause-quiet
+returns-in_err-read_page_rows-clause-quiet g c =
+    let p = err_from_is_err_and c.from_residual.result c.from_residual.ensures.1 in
+    rw (p.1, p.2) (quiet_trans g.D.Drive _ c.args.drives.now c.loop-number.drives c.read_page_rows.new.drives c.loop-number.invariant.read.len c.loop-number.invariant.quiet c.in_err-read_page_rows.ensures.quiet)
