@@ -117,7 +117,7 @@ scanning from columns layout end positions = record {
   end = end;
   layout = layout;
   positions = positions;
-  pages = 1;
+  pages = positions;
   time = 1;
 }
 
@@ -135,7 +135,7 @@ hash_pieces from positions =
       end = answering_end;
       layout = merged emp_layout dept_layout;
       positions = positions;
-      pages = 1;
+      pages = positions;
       time = 1;
     }
     ∷ []

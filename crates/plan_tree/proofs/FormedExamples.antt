@@ -15,12 +15,18 @@ same x y h = cc
 timed : IsTimed 1 1
 timed = record { few_pages = lit≤ tt; some_time = lit≤ tt; short = lit≤ tt }
 
+two_pages : IsTimed 2 1
+two_pages = record { few_pages = lit≤ tt; some_time = lit≤ tt; short = lit≤ tt }
+
+all_slices : IsTimed 64 1
+all_slices = record { few_pages = lit≤ tt; some_time = lit≤ tt; short = lit≤ tt }
+
 hash_formed : AreWellFormed (hash_pieces (source.Heap 1 1) 1)
 hash_formed = record { few = lit≤ tt; statements = ((refl, tt), (tt, tt)); each = each } where
   each : (number : ℕ) (piece : Piece) → slice_get (hash_pieces (source.Heap 1 1) 1) number ≡ Some piece → IsPiece (take number (hash_pieces (source.Heap 1 1) 1)) piece
-  each zero piece h = subst (IsPiece []) (same _ piece h) (record { source = tt; tests = tt; probes = refl; end = (refl, tt); timed = timed })
+  each zero piece h = subst (IsPiece []) (same _ piece h) (record { source = refl; tests = tt; probes = refl; end = (refl, tt); timed = two_pages })
   each (suc zero) piece h = subst (IsPiece (take 1 (hash_pieces (source.Heap 1 1) 1))) (same _ piece h) (record {
-    source = tt;
+    source = refl;
     tests = tt;
     probes = (record { layouts = refl; ordered = ((lit< tt, tt), (tt, tt)); input = inl (_, refl, (refl, refl)); keys = (refl, tt); tests = tt }, refl);
     end = ((refl, (refl, tt)), tt);
@@ -31,7 +37,7 @@ hash_formed = record { few = lit≤ tt; statements = ((refl, tt), (tt, tt)); eac
 kept_formed : AreWellFormed kept_pieces
 kept_formed = record { few = lit≤ tt; statements = ((refl, tt), (tt, tt)); each = each } where
   each : (number : ℕ) (piece : Piece) → slice_get kept_pieces number ≡ Some piece → IsPiece (take number kept_pieces) piece
-  each zero piece h = subst (IsPiece []) (same _ piece h) (record { source = tt; tests = tt; probes = refl; end = ((refl, tt), tt); timed = timed })
+  each zero piece h = subst (IsPiece []) (same _ piece h) (record { source = refl; tests = tt; probes = refl; end = ((refl, tt), tt); timed = timed })
   each (suc zero) piece h = subst (IsPiece (take 1 kept_pieces)) (same _ piece h) (record {
     source = (refl, refl);
     tests = tt;
@@ -51,13 +57,13 @@ apart var h = by (0 == var) (1 == var) refl refl h where
 merge_formed : AreWellFormed merge_pieces
 merge_formed = record { few = lit≤ tt; statements = ((refl, (refl, tt)), ((refl, tt), (tt, tt))); each = each } where
   each : (number : ℕ) (piece : Piece) → slice_get merge_pieces number ≡ Some piece → IsPiece (take number merge_pieces) piece
-  each zero piece h = subst (IsPiece []) (same _ piece h) (record { source = tt; tests = tt; probes = refl; end = (lit< tt, tt); timed = timed })
-  each (suc zero) piece h = subst (IsPiece (take 1 merge_pieces)) (same _ piece h) (record { source = tt; tests = tt; probes = refl; end = (lit< tt, tt); timed = timed })
+  each zero piece h = subst (IsPiece []) (same _ piece h) (record { source = refl; tests = tt; probes = refl; end = (lit< tt, tt); timed = two_pages })
+  each (suc zero) piece h = subst (IsPiece (take 1 merge_pieces)) (same _ piece h) (record { source = refl; tests = tt; probes = refl; end = (lit< tt, tt); timed = timed })
   each (suc (suc zero)) piece h = subst (IsPiece (take 2 merge_pieces)) (same _ piece h) (record {
     source = (record { left_input = (_, refl, (refl, refl)); right_input = (_, refl, (refl, refl)); left_ordered = (tt, tt); right_ordered = (tt, tt); apart = apart; pairs = (refl, tt) }, refl, refl);
     tests = tt;
     probes = refl;
     end = ((refl, (refl, tt)), tt);
-    timed = timed;
+    timed = all_slices;
   })
   each (suc (suc (suc number))) piece h = cc

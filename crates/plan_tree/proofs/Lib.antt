@@ -19,3 +19,6 @@ pub mod IndexReads
 pub mod Elements
 pub mod Shapes
 pub mod Positions
+pub mod InputOuts
+pub mod ValueLists
+pub mod EndParts

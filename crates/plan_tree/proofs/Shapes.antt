@@ -57,14 +57,14 @@ pub distinct_ordered : (layout : List LayoutPart) → IsOrdered layout → Disti
 distinct_ordered [] up = tt
 distinct_ordered (p ∷ ps) up = (not_behind p ps up.0, distinct_ordered ps up.1)
 
-filter_ordered : (f : LayoutPart → Bool) (layout : List LayoutPart) → IsOrdered layout → IsOrdered (filter f layout)
+pub filter_ordered : (f : LayoutPart → Bool) (layout : List LayoutPart) → IsOrdered layout → IsOrdered (filter f layout)
 filter_ordered f [] up = tt
 filter_ordered f (p ∷ ps) up = elim (f p) as (λ b. IsOrdered (cond b (p ∷ filter f ps) (filter f ps))) [
   | true ↦ (above_filter f p ps up.0, filter_ordered f ps up.1)
   | false ↦ filter_ordered f ps up.1
 ]
 
-added_apart : (before after : List LayoutPart) → AreApart (added before after) before
+pub added_apart : (before after : List LayoutPart) → AreApart (added before after) before
 added_apart before [] var h = absurd (let k : false ≡ true = h in cc)
 added_apart before (q ∷ qs) var h = by (added_apart before qs var) (has_part before q.var) refl h where
   last : (c : Bool) → (q.var == var) ≡ c → has_part before q.var ≡ false → (has_part (added before qs) var ≡ true → part_of before var ≡ None) →
@@ -96,7 +96,7 @@ value_fits c (value.Number n) h = typed_fits c.col_type (value.Number n) h
 value_fits c (value.Word w) h = typed_fits c.col_type (value.Word w) h
 value_fits c (value.Truth b) h = typed_fits c.col_type (value.Truth b) h
 
-row_fits : (columns : List Column) (row : List Value) → IsRowOf columns row → FitsColumns (map layout_column columns) row
+pub row_fits : (columns : List Column) (row : List Value) → IsRowOf columns row → FitsColumns (map layout_column columns) row
 row_fits [] [] h = tt
 row_fits [] (v ∷ vs) h = elim h [ ]
 row_fits (c ∷ cs) [] h = elim h [ ]
@@ -198,25 +198,25 @@ module _ (before : List Piece) (values : List (List (List Value))) (shapes : Hav
       _ (all_slice (IsRowIn left_layout) p (value_at values left) left_fits)
 
   module _ (stored : Stored) (bytes : HoldsBytes stored) where
-    begun_fits : (from : Source) (columns : List Column) (positions : ℕ) → IsSource before from columns positions → (p : ℕ) → AllByRecursion (IsRowIn (source_layout from columns)) (begun stored values from columns p)
-    begun_fits source.One columns positions s p = (tt, tt)
-    begun_fits (source.Heap var file) columns positions s p = items_fit var columns (page_items stored file p) (bytes file p)
-    begun_fits (source.Index var index heap_file interval) columns positions s p = entry_fits var columns stored bytes heap_file (slice_get (stored.entries index.file) (interval.from + p))
-    begun_fits (source.Merge left right keys left_layout right_layout) columns positions s p = matched_fit left right keys left_layout right_layout s.0 p
+    begun_fits : (from : Source) (columns : List Column) (positions pages : ℕ) → IsSource before from columns positions pages → (p : ℕ) → AllByRecursion (IsRowIn (source_layout from columns)) (begun stored values from columns p)
+    begun_fits source.One columns positions pages s p = (tt, tt)
+    begun_fits (source.Heap var file) columns positions pages s p = items_fit var columns (page_items stored file p) (bytes file p)
+    begun_fits (source.Index var index heap_file interval) columns positions pages s p = entry_fits var columns stored bytes heap_file (slice_get (stored.entries index.file) (interval.from + p))
+    begun_fits (source.Merge left right keys left_layout right_layout) columns positions pages s p = matched_fit left right keys left_layout right_layout s.0 p
 
-    source_ordered : (from : Source) (columns : List Column) (positions : ℕ) → IsSource before from columns positions → IsOrdered (source_layout from columns)
-    source_ordered source.One columns positions s = tt
-    source_ordered (source.Heap var file) columns positions s = (tt, tt)
-    source_ordered (source.Index var index heap_file interval) columns positions s = (tt, tt)
-    source_ordered (source.Merge left right keys left_layout right_layout) columns positions s =
+    source_ordered : (from : Source) (columns : List Column) (positions pages : ℕ) → IsSource before from columns positions pages → IsOrdered (source_layout from columns)
+    source_ordered source.One columns positions pages s = tt
+    source_ordered (source.Heap var file) columns positions pages s = (tt, tt)
+    source_ordered (source.Index var index heap_file interval) columns positions pages s = (tt, tt)
+    source_ordered (source.Merge left right keys left_layout right_layout) columns positions pages s =
         merged_ascends left_layout right_layout s.0.apart (distinct_ordered left_layout s.0.left_ordered) s.0.right_ordered
 
     -- the rows of a position before the end
     pub piped_fits : (piece : Piece) → IsPiece before piece → (p : ℕ) → AllByRecursion (IsRowIn piece.layout) (piped stored values piece.pipe p)
     piped_fits piece is p =
         let layout = source_layout piece.pipe.source piece.pipe.columns in
-        through_fits layout piece.pipe.probes piece.layout (source_ordered piece.pipe.source piece.pipe.columns piece.positions is.source) is.probes _
-        (all_filter (IsRowIn layout) (λ row. all_met piece.pipe.tests (column_in layout row)) (begun stored values piece.pipe.source piece.pipe.columns p) (begun_fits piece.pipe.source piece.pipe.columns piece.positions is.source p))
+        through_fits layout piece.pipe.probes piece.layout (source_ordered piece.pipe.source piece.pipe.columns piece.positions piece.pages is.source) is.probes _
+        (all_filter (IsRowIn layout) (λ row. all_met piece.pipe.tests (column_in layout row)) (begun stored values piece.pipe.source piece.pipe.columns p) (begun_fits piece.pipe.source piece.pipe.columns piece.positions piece.pages is.source p))
 
 -- ---- ends
 
@@ -227,7 +227,7 @@ RowFits layout (answering targets unique keys) row = FitsTypes (target_types lay
 RowFits layout (folding targets fold) row = FitsTypes (target_types layout targets) row
 RowFits layout (sorting keys) row = IsRowIn layout row
 
-targets_fit : (layout : List LayoutPart) (row : List Value) → IsRowIn layout row → (targets : List Output) → AllByRecursion (λ type. IsSome type) (target_types layout targets) →
+pub targets_fit : (layout : List LayoutPart) (row : List Value) → IsRowIn layout row → (targets : List Output) → AllByRecursion (λ type. IsSome type) (target_types layout targets) →
     FitsTypes (target_types layout targets) (project targets (column_in layout row))
 targets_fit layout row fits [] typed = tt
 targets_fit layout row fits (t ∷ ts) typed = by (targets_fit layout row fits ts typed.1) (type_at layout t) refl typed.0 where

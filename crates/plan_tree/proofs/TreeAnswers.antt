@@ -7,6 +7,7 @@ use Rattle.lists.proofs.Arranging.{bag_fixes, sort_ascends, occurrences-sort}
 use Rattle.rows.specs.declared.value.Value.{Value}
 use Rattle.rows.specs.Values.{row_cmp}
 use Rattle.rows.proofs.Orders.{row_total, row_exact}
+use Rattle.rows.specs.declared.plain.LayoutColumn.{LayoutColumn}
 use Rattle.rel_meaning.specs.Expression.{Question}
 use Rattle.rel_meaning.specs.declared.query.Table.{Table}
 use Rattle.rel_meaning.specs.declared.query.Var.{Var}
@@ -16,7 +17,7 @@ use Rattle.plan_tree.specs.declared.tree.Method.{Method}
 use Rattle.plan_tree.specs.declared.tree.Way.{Way}
 use Rattle.plan_tree.specs.Assignments.{columns_for, columns_if, rows_for, rows_if}
 use Rattle.plan_tree.specs.Trees.{Shape, one, scan, join, IsTree}
-use Rattle.plan_tree.specs.TreeLaws.{SameRows, ScanReads, tree_answer}
+use Rattle.plan_tree.specs.TreeLaws.{FitColumns, NamesOwn, ReadsRows, SameRows, ScanReads, answer_over, tree_answer}
 use Rattle.plan_tree.proofs.Sums.{total, Same}
 use Rattle.plan_tree.proofs.Bags.{sort_same}
 use Rattle.plan_tree.proofs.Resolved.{resolved_names}
@@ -29,6 +30,17 @@ sums_of xs ys same f =
     let order = row_total [] in
     let sorted = bag_fixes order (row_exact []) _ _ (sort_ascends order xs) (sort_ascends order ys) (λ z. occurrences-sort order z xs ∙ same z ∙ sym (occurrences-sort order z ys)) in
     sym (sort_same (row_cmp []) xs f) ∙ ap (total f) sorted ∙ sort_same (row_cmp []) ys f
+
+-- each tree of a query that names its own variables alone, over rows that fit their columns
+module _ (db : List Table) (q : Question) (columns : ℕ → List LayoutColumn) (fit : FitColumns db q columns) (scanned : ℕ → Way → List (List Value)) where
+  same_reads : (t : Shape) → ReadsRows columns (rows_for db q.vars) scanned t → Reads columns (rows_for db q.vars) fit scanned t
+  same_reads (one tests) h = tt
+  same_reads (scan v w tests) h = sums_of _ _ h
+  same_reads (join m a b keys tests) h = (same_reads a h.0, same_reads b h.1)
+
+pub answers_over : (db : List Table) (q : Question) (m : Method) (t : Shape) (columns : ℕ → List LayoutColumn) (scanned : ℕ → Way → List (List Value)) → FitColumns db q columns → NamesOwn q → IsTree q m t →
+    ReadsRows columns (rows_for db q.vars) scanned t → answer_over columns q scanned t ≡ meaning db q
+answers_over db q m t columns scanned fit names tree h = tree_means db q m t tree names columns fit scanned (same_reads db q columns fit scanned t h)
 
 module _ (db : List Table) (q : Question) (ok : IsResolved db q) where
   table_there : (relation : ℕ) (table : Table) → slice_get db relation ≡ Some table → IsTable table
@@ -46,10 +58,5 @@ module _ (db : List Table) (q : Question) (ok : IsResolved db q) where
   pub fits : (v : ℕ) → AllByRecursion (FitsColumns (columns_for db q.vars v)) (rows_for db q.vars v)
   fits v = var_fits (slice_get q.vars v)
 
-  reads : (scanned : ℕ → Way → List (List Value)) (t : Shape) → ScanReads db q scanned t → Reads (columns_for db q.vars) (rows_for db q.vars) fits scanned t
-  reads scanned (one tests) h = tt
-  reads scanned (scan v w tests) h = sums_of _ _ h
-  reads scanned (join m a b keys tests) h = (reads scanned a h.0, reads scanned b h.1)
-
   pub answers : (m : Method) (t : Shape) (scanned : ℕ → Way → List (List Value)) → IsTree q m t → ScanReads db q scanned t → tree_answer db q scanned t ≡ meaning db q
-  answers m t scanned tree h = tree_means db q m t tree (resolved_names db q ok) (columns_for db q.vars) fits scanned (reads scanned t h)
+  answers m t scanned tree h = answers_over db q m t (columns_for db q.vars) scanned fits (resolved_names db q ok) tree h

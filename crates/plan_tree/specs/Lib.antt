@@ -13,3 +13,5 @@ pub mod Explained
 pub mod TreeLaws
 pub mod Intervals
 pub mod ShapeLaws
+pub mod Inputs
+pub mod EndValues

@@ -94,12 +94,12 @@ pub record IsMerge (before : List Piece) (left right : ℕ) (keys : List KeyPair
   pub apart : AreApart left_layout right_layout
   pub pairs : AllByRecursion (IsPair left_layout right_layout) keys
 
--- a source with so many positions: those of a heap file are its pages
-abbrev pub IsSource : List Piece → Source → List Column → ℕ → Type 0
-IsSource before source.One columns positions = (columns ≡ []) × (positions ≡ 1)
-IsSource before (source.Heap var file) columns positions = ⊤
-IsSource before (source.Index var index heap_file interval) columns positions = IsIndexed index interval × (positions ≡ interval.upto - interval.from)
-IsSource before (source.Merge left right keys left_layout right_layout) columns positions = IsMerge before left right keys left_layout right_layout × (columns ≡ []) × (positions ≡ merge_slices)
+-- a source with so many positions, of a fragment that reads so many pages: the positions of a heap file are its pages
+abbrev pub IsSource : List Piece → Source → List Column → ℕ → ℕ → Type 0
+IsSource before source.One columns positions pages = (columns ≡ []) × (positions ≡ 1)
+IsSource before (source.Heap var file) columns positions pages = positions ≡ pages
+IsSource before (source.Index var index heap_file interval) columns positions pages = IsIndexed index interval × (positions ≡ interval.upto - interval.from)
+IsSource before (source.Merge left right keys left_layout right_layout) columns positions pages = IsMerge before left right keys left_layout right_layout × (columns ≡ []) × (positions ≡ merge_slices)
 
 -- what a probe reads: rows that are built by its keys, or, without keys, the answer of an earlier statement, beside nothing else
 abbrev pub ReadsBuilt : List Piece → List LayoutPart → Probing → Type 0
@@ -154,7 +154,7 @@ IsTimedFragment f = IsTimed f.pages f.time
 
 -- a fragment behind earlier ones
 pub record IsPiece (before : List Piece) (piece : Piece) : Type 0 where
-  pub source : IsSource before piece.pipe.source piece.pipe.columns piece.positions
+  pub source : IsSource before piece.pipe.source piece.pipe.columns piece.positions piece.pages
   pub tests : AreTests (source_layout piece.pipe.source piece.pipe.columns) piece.pipe.tests
   pub probes : AreProbes before (source_layout piece.pipe.source piece.pipe.columns) piece.pipe.probes piece.layout
   pub end : IsEnd piece.layout piece.end

@@ -1,3 +1,7 @@
+ghost use Rattle.std.specs.Prelude.{◌≡◌, map, slice_get};
+ghost use Rattle.plan_tree.specs.Inputs.{probe_inputs};
+ghost use Rattle.plan_tree.specs.Pieces.{probing_of};
+
 use crate::ExprList;
 use aggregate_op::Fold;
 use lists::Sequence;
@@ -94,9 +98,37 @@ pub struct Fragment {
 /// The fragments of a script. An input of a fragment is given by its number in this list.
 pub type FragmentList = Sequence<Fragment>;
 
+// The input of the probe at a place.
+fn probe_input(probes: &[Probe], place: usize) -> Option<u32>
+    ensures { result ≡ slice_get (probe_inputs (map probing_of probes.now)) place }
+{
+    match probes.get(place) {
+        Some(probe) => Some(probe.input),
+        None => None,
+    }
+}
+
 impl Fragment {
-    ghost use Rattle.std.specs.Prelude.{◌≡◌};
+    ghost use Rattle.std.specs.Prelude.{◌≡◌, slice_get};
     ghost use Rattle.plan_tree.specs.Ends.{IsAnswer, fragment_with, is_by_entries};
+    ghost use Rattle.plan_tree.specs.Inputs.{inputs_of};
+    ghost use Rattle.plan_tree.specs.Pieces.{piece_of};
+
+    /// The number of the input at a place, counted from 0: a merge's two sides come first, and then the inputs of the probes
+    /// in their order. `None` behind the last. It takes no memory.
+    pub fn input(&self, place: usize) -> Option<u32>
+        ensures { result ≡ slice_get (inputs_of (piece_of self.now)) place }
+    {
+        let probes = self.pipe.probes.items();
+        match &self.pipe.source {
+            Source::Merge { left, right, .. } => match place {
+                0 => Some(*left),
+                1 => Some(*right),
+                _ => probe_input(probes, place - 2),
+            },
+            Source::One | Source::Heap { .. } | Source::Index { .. } => probe_input(probes, place),
+        }
+    }
 
     /// Whether the positions are entries of an index or slices of a merge.
     pub fn by_entries(&self) -> bool
