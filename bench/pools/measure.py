@@ -1,7 +1,7 @@
 #!/usr/bin/env python3
 """Times fetches of cached pages, look-ups of random entries, and the writing of a heap file and of its index.
 
-Build the program first: `rt run` in crates/pool_bench proves it and leaves it in out/. Each time is the least of five runs,
+Build the program first: `rt run` in crates/engine_bench proves it and leaves it in out/. Each time is the least of five runs,
 less the least of five runs that do none of the work: no fetch, no look-up, no row. The time that passes stands before the
 time that processors work. The making of its rows is in the time of a heap file, and the making of its entries and the test
 of their order in that of an index.
@@ -12,7 +12,7 @@ import subprocess
 import time
 
 TOP = os.path.dirname(os.path.dirname(os.path.dirname(os.path.abspath(__file__))))
-PROGRAM = os.path.join(TOP, "crates", "pool_bench", "out", "pool_bench")
+PROGRAM = os.path.join(TOP, "crates", "engine_bench", "out", "engine_bench")
 RUNS = 5
 FETCHES = 4_000_000
 LOOK_UPS = 100_000
