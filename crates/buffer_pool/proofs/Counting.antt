@@ -2,13 +2,12 @@
 use mathlib.Core.Logic.{dite}
 use mathlib.Core.List.{IsPrefix}
 use native.Mathlib.Decide.{ℕ_discrete}
-use Rattle.std.proofs.Common.{◌≡◌, ◌⊎◌, ℕ, zero, suc, ◌+◌, ◌<◌, ◌≤◌, List, [], ◌∷◌, length, length-append, append-nil, Option, Result, Ok, Err, refl, sym, ap, subst, ◌∙◌, inl, inr, arith, if◌then◌else◌}
+use Rattle.std.proofs.Common.{◌≡◌, ◌⊎◌, ℕ, zero, suc, ◌+◌, ◌<◌, ◌≤◌, List, [], ◌∷◌, length, length-append, append-nil, Option, Err, refl, sym, ap, subst, ◌∙◌, inl, inr, arith, if◌then◌else◌}
 use Rattle.std.proofs.lemmas.Bool.Decides.{leb_tells}
 use Rattle.xp_outside.specs.Outside.{Rose}
 use Rattle.heap_page.specs.declared.errors.FetchErr.{FetchErr}
 use Rattle.heap_page.specs.declared.errors.FetchErr.TheVariants.{DriveFault, BadPage, NoMemory}
 use Rattle.heap_page.specs.declared.head.FileKind.{FileKind}
-use Rattle.std.specs.Prelude.{IfErr, OnOk}
 use Rattle.buffer_pool.specs.declared.place.Place.{Place}
 use Rattle.buffer_pool.specs.Fetched.{IsFetched, error_of}
 use Rattle.buffer_pool.specs.Counts.{GoesOn, LAST, Covers, IsCounted, IsFailure, count_of, next_count, up_to}

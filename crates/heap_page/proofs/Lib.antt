@@ -1,4 +1,4 @@
-mod Parts
+pub mod Parts
 mod Standing
 mod Written
 mod Read

@@ -15,6 +15,7 @@ mod Searches
 mod Fronts
 mod Narrowings
 mod PageBytes
+mod PagesBack
 mod Drives
 mod LevelLaws
 mod Ordered

@@ -1,5 +1,5 @@
 -- The pages that a search passes over told pages, from the root to a leaf, and the bad page at which it stops.
-use Rattle.std.specs.Prelude.{◌≡◌, ℕ, zero, suc, ◌+◌, ◌-◌, ◌<◌, ◌≤◌, Bool, List, [], ◌∷◌, Some, None, max, min, Result, Ok, Err, ⊤, ◌⊎◌}
+use Rattle.std.specs.Prelude.{◌≡◌, ℕ, zero, suc, ◌-◌, ◌<◌, Bool, List, [], ◌∷◌, Some, None, max, min, Result, Ok, Err, ⊤, ◌⊎◌}
 use Rattle.heap_page.specs.declared.errors.BadPage.{BadPage}
 use Rattle.heap_page.specs.declared.errors.FetchErr.{FetchErr}
 use Rattle.heap_page.specs.declared.errors.FetchErr.TheVariants as fetch

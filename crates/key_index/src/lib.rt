@@ -21,7 +21,7 @@ mod tests;
 mod writing;
 
 pub use entry_order::{are_entries, compare_entries};
-pub use laws::index_laws;
+pub use laws::{index_laws, page_laws};
 pub use plan::plan_index;
 pub use search::{entry, interval, rank_high, rank_low};
 pub use writing::write_index;

@@ -211,7 +211,7 @@ truth_back (b ∷ bytes) v rest e =
       ]
     ]
 
-typed_back : (t : ColType) (bytes : List ℕ) (v : Value) (rest : List ℕ) → IsBytes bytes → typed_front t bytes ≡ Some (v, rest) → Back (IsOfType t) bytes v rest
+pub typed_back : (t : ColType) (bytes : List ℕ) (v : Value) (rest : List ℕ) → IsBytes bytes → typed_front t bytes ≡ Some (v, rest) → Back (IsOfType t) bytes v rest
 typed_back col.Int4 bytes v rest small e = integer_back bytes v rest small e
 typed_back col.Text bytes v rest small e = text_back bytes v rest small e
 typed_back col.Bool bytes v rest small e = truth_back bytes v rest e

@@ -1,4 +1,4 @@
-use Rattle.std.proofs.Common.{rules, ◌≡◌, ◌<◌, length, []}
+use Rattle.std.proofs.Common.{rules, ◌≡◌, ◌<◌, length}
 use Rattle.std.proofs.lemmas.List.Elements.{All-pop}
 use Rattle.buffer_pool.specs.Locks.{lock_drives}
 use Rattle.buffer_pool.specs.Lone.{IsEmptyCache}

@@ -1,4 +1,4 @@
-use Rattle.std.proofs.Common.{refl, inl}
+use Rattle.std.proofs.Common.{refl}
 use Rattle.buffer_pool.proofs.Counting.{error_goes_on, handed_over}
 use Rattle.buffer_pool.proofs.Fetching.{handed_on}
 use Rattle.buffer_pool.proofs.turn.fetch_at.Goals as goal
