@@ -14,7 +14,7 @@ use Rattle.seq_optimizer.specs.Sets.{in_set}
 use Rattle.seq_optimizer.proofs.Sets.{either_set}
 
 -- the variables of both sides
-both_set : (x y : ℕ) (f g : ℕ → Bool) → in_set x ≡ f → in_set y ≡ g → in_set (bit_or x y) ≡ (λ v. f v || g v)
+pub both_set : (x y : ℕ) (f g : ℕ → Bool) → in_set x ≡ f → in_set y ≡ g → in_set (bit_or x y) ≡ (λ v. f v || g v)
 both_set x y f g p q = either_set x y ∙ (λ i v. p i v || q i v)
 
 pub join_costed : (cs : List Expression) (stats : List VarStats) (sizes : List ℕ) → sizes ≡ variable_sizes cs stats → (kind : Method) (a b : Shape) (x y : Costed) → IsCosted cs stats a x → IsCosted cs stats b y → (keys : List KeyPair) (tests : List Expression) (price : ℕ)

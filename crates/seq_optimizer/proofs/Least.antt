@@ -16,7 +16,7 @@ unfolding mask_of
 has_variable (leaf v how) = pow_pos v
 has_variable (node a b) = let p = has_variable a in omega arith
 
-same_interval : (o : Option Interval) (i j : Interval) → o ≡ Some i → o ≡ Some j → i ≡ j
+pub same_interval : (o : Option Interval) (i j : Interval) → o ≡ Some i → o ≡ Some j → i ≡ j
 same_interval o i j p q = let both : Some i ≡ Some j = sym p ∙ q in cc
 
 -- the chosen scan costs no more than another

@@ -17,3 +17,4 @@ pub mod Sets
 pub mod Sizes
 pub mod Splits
 pub mod Walks
+pub mod OnePlan

@@ -12,7 +12,7 @@ use Rattle.seq_optimizer.specs.Costs.{FitsStats, IsChosen, cost}
 use Rattle.seq_optimizer.proofs.Scanned.{scans_itself}
 
 -- a side of a join scans a variable
-side_scans : (cs : List Expression) (t : Shape) → IsPlaced cs false t → (v : ℕ) × (0 < scans t v)
+pub side_scans : (cs : List Expression) (t : Shape) → IsPlaced cs false t → (v : ℕ) × (0 < scans t v)
 side_scans cs (one tests) placed = absurd placed
 side_scans cs (scan v how tests) placed = (v, let itself = scans_itself v in omega (arith, itself))
 side_scans cs (join k a b keys tests) placed =

@@ -11,6 +11,12 @@ pub record IsCosted (cs : List Expression) (stats : List VarStats) (t : Shape) (
   pub cost : c.cost ≡ cost cs stats t
   pub set : in_set c.set ≡ has t
 
+-- each scan is of one of so many variables
+abbrev pub ScansBelow : ℕ → Shape → Type 0
+ScansBelow n (one tests) = ⊤
+ScansBelow n (scan v how tests) = v < n
+ScansBelow n (join kind a b keys tests) = ScansBelow n a × ScansBelow n b
+
 -- each scan is of one of so many variables, and has an interval that doesn't end before it begins
 abbrev pub AreScans : ℕ → Shape → Type 0
 AreScans n (one tests) = ⊤

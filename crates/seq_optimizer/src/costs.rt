@@ -3,11 +3,12 @@ ghost use Rattle.std.specs.Prelude.{◌≡◌, ◌<◌, ◌≤◌, ◌+◌, ◌^
 ghost use Rattle.std.specs.Option.{option_map};
 ghost use Rattle.rel_meaning.specs.Expression.{expression_of, question_of, Expression};
 ghost use Rattle.plan_tree.specs.Conjuncts.{conjuncts};
-ghost use Rattle.plan_tree.specs.Trees.{is_variable, IsAnyTree, Shape, join, scan};
+ghost use Rattle.plan_tree.specs.Trees.{has, is_variable, IsAnyTree, Shape, join, scan};
 ghost use Rattle.plan_tree.specs.Views.{shape_of};
 ghost use Rattle.seq_optimizer.specs.Costs.{cost, digits, scan_cost, sort_cost, step_cost, CanPlan, HasIntervals, IsWayInterval};
 ghost use Rattle.seq_optimizer.specs.Estimates.{limit, set_size, variable_sizes};
-ghost use Rattle.seq_optimizer.specs.Costed.{AreScans, IsCosted};
+ghost use Rattle.seq_optimizer.specs.Costed.{AreScans, IsCosted, ScansBelow};
+ghost use Rattle.seq_optimizer.specs.Sets.{in_set};
 ghost use Rattle.seq_optimizer.specs.declared.stats.VarStats.{VarStats};
 ghost use Rattle.rows.specs.declared.plain.KeyPair.{KeyPair};
 
@@ -146,6 +147,32 @@ pub fn cost(query: &Query, stats: &VarStatsList, tree: &Tree) -> u64
     let sizes = &mut sizes[..stats.len()];
     fill_sizes(&query.test, stats.items(), sizes);
     tree_cost(&query.test, sizes, stats.items(), tree).cost
+}
+
+// The set of the variables that a tree scans.
+fn tree_set(tree: &Tree) -> u32
+    requires { ScansBelow 32 (shape_of tree.now) }
+    ensures { in_set result ≡ has (shape_of tree.now) }
+{
+    match tree {
+        Tree::One { .. } => 0,
+        Tree::Scan { var, .. } => set_of(*var),
+        Tree::Join { build, probe, .. } => tree_set(build) | tree_set(probe),
+        Tree::Merge { left, right, .. } => tree_set(left) | tree_set(right),
+    }
+}
+
+/// How many rows the variables that a tree scans together are taken to have, 1 for a tree that scans none. Each of them is
+/// a variable of the query. It takes no memory.
+pub fn estimate_of(query: &Query, stats: &VarStatsList, tree: &Tree) -> u64
+    requires plan { CanPlan (question_of query.now) stats.now }
+    requires scans { ScansBelow (length (question_of query.now).vars) (shape_of tree.now) }
+    ensures { let cs = conjuncts (question_of query.now).test in result ≡ set_size cs (variable_sizes cs stats.now) (has (shape_of tree.now)) }
+{
+    let mut sizes = [0; MOST_VARS];
+    let sizes = &mut sizes[..stats.len()];
+    fill_sizes(&query.test, stats.items(), sizes);
+    set_size(&query.test, sizes, tree_set(tree))
 }
 
 /// How many rows all variables of a query together are taken to have, 1 for a query without variables. It takes no

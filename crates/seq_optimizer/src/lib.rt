@@ -6,6 +6,7 @@ mod conjuncts;
 mod costs;
 mod estimates;
 mod keys;
+mod laws;
 mod naming;
 mod optimising;
 mod placing;
@@ -17,7 +18,8 @@ mod table;
 mod tests;
 
 pub use bounds::bounds_of;
-pub use costs::{cost, estimate};
+pub use costs::{cost, estimate, estimate_of};
+pub use laws::one_plan;
 pub use optimising::optimise;
 pub use stats::{VarStats, VarStatsList, VarStatsTable};
 
