@@ -5,10 +5,10 @@ use adjust_protocol::{ArcList, Asked, Board};
 use page_partition::{Division, PageStride};
 use range_partition::EntryIntervals;
 use std::alloc::{AllocError, Global};
+use std::io;
 use std::rt::Clock;
 use std::sync::Arc;
 use std::time::{Duration, Instant};
-use std::io;
 
 const ROLES: u32 = 8;
 

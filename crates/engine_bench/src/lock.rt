@@ -6,8 +6,8 @@ use crate::tally::Tally;
 use run_lock::{Pass, RunLock};
 use std::alloc::{AllocError, Global};
 use std::sync::{Mutex, Wait};
-use std::thread::Threads;
 use std::thread;
+use std::thread::Threads;
 
 fn take_turns<R: Wait>(rt: &R, lock: &RunLock<Tally>, pass: &mut Pass<Tally>, turns: u64)
     requires { IsFree lock.now pass.old }

@@ -7,7 +7,7 @@ use Rattle.postquel_tokens.specs.declared.name.Key.TheVariants as key
 -- the names that no variable, column or relation may have
 abbrev pub key_names : List (List ℕ × Key)
 key_names =
-      (codes "retrieve", key.Retrieve)
+    (codes "retrieve", key.Retrieve)
     ∷ (codes "unique", key.Unique)
     ∷ (codes "from", key.From)
     ∷ (codes "in", key.In)
