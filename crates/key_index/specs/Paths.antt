@@ -1,4 +1,5 @@
--- The pages that a search passes over told pages, from the root to a leaf, and the bad page at which it stops.
+-- The pages that a search passes over told pages, from the root to a leaf, and the bad page at
+-- which it stops.
 use Rattle.std.specs.Prelude.{◌≡◌, ℕ, zero, suc, ◌-◌, ◌<◌, Bool, List, [], ◌∷◌, Some, None, max, min, Result, Ok, Err, ⊤, ◌⊎◌}
 use Rattle.heap_page.specs.declared.errors.BadPage.{BadPage}
 use Rattle.heap_page.specs.declared.errors.FetchErr.{FetchErr}
@@ -24,7 +25,12 @@ IfBad P fetch.NoMemory = ⊤
 -- what was taken from a page, or the bad page with the rule that it breaks
 abbrev pub answer_from : {T : Type 0} → ℕ → ℕ → Result T ℕ → Result T FetchErr
 answer_from file page (Ok taken) = Ok taken
-answer_from file page (Err rule) = Err (fetch.BadPage (record { file = file; page = page; rule = rule }))
+answer_from file page (Err rule) = Err (fetch.BadPage (record {
+  file = file;
+  page = page;
+  rule =
+      rule;
+}))
 
 -- the head of this page of the index breaks no rule
 abbrev pub IsFineHead : KeyIndex → (ℕ → List ℕ) → ℕ → Type 0
@@ -32,25 +38,30 @@ IsFineHead index pages page = head_fault Index index.file page (pages page) ≡ 
 
 -- the first rule that this page breaks: one of its head, or else one of those behind it
 abbrev pub FirstBroken : KeyIndex → (ℕ → List ℕ) → ℕ → (ℕ → Type 0) → ℕ → Type 0
-FirstBroken index pages page Behind rule = (head_fault Index index.file page (pages page) ≡ Some rule) ⊎ (IsFineHead index pages page × Behind rule)
+FirstBroken index pages page Behind rule =
+    (head_fault Index index.file page (pages page) ≡ Some rule) ⊎ (IsFineHead index pages page ×
+    Behind rule)
 
 -- the bad page is this one, and its rule is the first one that is broken here
 abbrev pub IsBadHere : KeyIndex → (ℕ → List ℕ) → ℕ → (ℕ → Type 0) → BadPage → Type 0
-IsBadHere index pages page Behind bad = (bad.page ≡ page) × FirstBroken index pages page Behind bad.rule
+IsBadHere index pages page Behind bad = (bad.page ≡ page) ×
+    FirstBroken index pages page Behind bad.rule
 
--- The search for what passes stands at this page after so many steps down from the root, and so many entries stand left of the page. Each
--- page passed breaks no rule, and leads to the next one.
+-- The search for what passes stands at this page after so many steps down from the root, and so
+-- many entries stand left of the page. Each page passed breaks no rule, and leads to the next one.
 abbrev pub Reaches : KeyIndex → (ℕ → List ℕ) → (Item → Bool) → ℕ → ℕ × ℕ → Type 0
 Reaches index pages p zero at = (at.0 ≡ index.pages - 1) × (at.1 ≡ 0)
 Reaches index pages p (suc steps) at =
-    (above : ℕ × ℕ) × Reaches index pages p steps above × IsFineHead index pages above.0 × IsNext index (index.height - 1 - steps) above.1 p (pages above.0) at
+    (above : ℕ × ℕ) × Reaches index pages p steps above × IsFineHead index pages above.0 ×
+    IsNext index (index.height - 1 - steps) above.1 p (pages above.0) at
 
 -- it stands at this leaf
 abbrev pub ReachesLeaf : KeyIndex → (ℕ → List ℕ) → (Item → Bool) → ℕ × ℕ → Type 0
 ReachesLeaf index pages p at = Reaches index pages p (index.height - 1) at
 
 -- it stands above the leaves at a page whose first broken rule this is
-pub record IsBadAbove (index : KeyIndex) (pages : ℕ → List ℕ) (p : Item → Bool) (bad : BadPage) : Type 0 where
+pub record IsBadAbove (index : KeyIndex) (pages : ℕ → List ℕ)
+    (p : Item → Bool) (bad : BadPage) : Type 0 where
   pub steps : ℕ
   pub left : ℕ
   pub above : suc steps < index.height
@@ -58,7 +69,8 @@ pub record IsBadAbove (index : KeyIndex) (pages : ℕ → List ℕ) (p : Item �
   pub breaks : FirstBroken index pages bad.page (BreaksAbove index (index.height - 1 - steps) left p (pages bad.page)) bad.rule
 
 -- it stands at a leaf whose first broken rule this is
-pub record IsBadLeaf (index : KeyIndex) (pages : ℕ → List ℕ) (p : Item → Bool) (Breaks : ℕ → List ℕ → ℕ → Type 0) (bad : BadPage) : Type 0 where
+pub record IsBadLeaf (index : KeyIndex) (pages : ℕ → List ℕ)
+    (p : Item → Bool) (Breaks : ℕ → List ℕ → ℕ → Type 0) (bad : BadPage) : Type 0 where
   pub left : ℕ
   pub way : ReachesLeaf index pages p (bad.page, left)
   pub breaks : FirstBroken index pages bad.page (Breaks left (pages bad.page)) bad.rule
@@ -66,7 +78,8 @@ pub record IsBadLeaf (index : KeyIndex) (pages : ℕ → List ℕ) (p : Item →
 -- ---- a rank
 
 -- It is the rank of the leaf that the search reaches, whose page breaks no rule.
-pub record IsRankFound (index : KeyIndex) (pages : ℕ → List ℕ) (p : Item → Bool) (rank : ℕ) : Type 0 where
+pub record IsRankFound (index : KeyIndex) (pages : ℕ → List ℕ)
+    (p : Item → Bool) (rank : ℕ) : Type 0 where
   pub at : ℕ × ℕ
   pub way : ReachesLeaf index pages p at
   pub head : IsFineHead index pages at.0
@@ -77,12 +90,14 @@ abbrev pub HasRank : KeyIndex → (ℕ → List ℕ) → (Item → Bool) → ℕ
 HasRank index pages p rank = 0 < index.entries → IsRankFound index pages p rank
 
 abbrev pub StopsRank : KeyIndex → (ℕ → List ℕ) → (Item → Bool) → BadPage → Type 0
-StopsRank index pages p bad = (0 < index.entries) × (IsBadAbove index pages p bad ⊎ IsBadLeaf index pages p (λ left. BreaksRank index left p) bad)
+StopsRank index pages p bad = (0 < index.entries) ×
+    (IsBadAbove index pages p bad ⊎ IsBadLeaf index pages p (λ left. BreaksRank index left p) bad)
 
 -- ---- an entry
 
 -- It is the entry of the leaf that the search reaches, whose page breaks no rule.
-pub record HasEntry (index : KeyIndex) (pages : ℕ → List ℕ) (number : ℕ) (found : ℕ × ℕ) : Type 0 where
+pub record HasEntry (index : KeyIndex) (pages : ℕ → List ℕ)
+    (number : ℕ) (found : ℕ × ℕ) : Type 0 where
   pub at : ℕ × ℕ
   pub way : ReachesLeaf index pages (upto_number number) at
   pub head : IsFineHead index pages at.0
@@ -128,23 +143,29 @@ StopsUpper index pages AtLeast c bad = ⊥
 -- one more bound leaves these ends of an interval
 abbrev pub IsNarrowed : KeyIndex → (ℕ → List ℕ) → Bound → Interval → Interval → Type 0
 IsNarrowed index pages b ends now =
-    (lower : ℕ) × (upper : ℕ) × HasLower index pages b.op b.value lower × HasUpper index pages b.op b.value upper × (now.from ≡ max ends.from lower) × (now.upto ≡ min ends.upto upper)
+    (lower : ℕ) × (upper : ℕ) × HasLower index pages b.op b.value lower ×
+    HasUpper index pages b.op b.value upper × (now.from ≡ max ends.from lower) ×
+    (now.upto ≡ min ends.upto upper)
 
 -- the greatest lower end, at least 0
 abbrev pub AreLower : KeyIndex → (ℕ → List ℕ) → List Bound → ℕ → Type 0
 AreLower index pages [] end = end ≡ 0
-AreLower index pages (b ∷ bs) end = (one : ℕ) × (rest : ℕ) × HasLower index pages b.op b.value one × AreLower index pages bs rest × (end ≡ max one rest)
+AreLower index pages (b ∷ bs) end = (one : ℕ) × (rest : ℕ) ×
+    HasLower index pages b.op b.value one × AreLower index pages bs rest × (end ≡ max one rest)
 
 -- the least upper end, at most the number of entries
 abbrev pub AreUpper : KeyIndex → (ℕ → List ℕ) → List Bound → ℕ → Type 0
 AreUpper index pages [] end = end ≡ index.entries
-AreUpper index pages (b ∷ bs) end = (one : ℕ) × (rest : ℕ) × HasUpper index pages b.op b.value one × AreUpper index pages bs rest × (end ≡ min one rest)
+AreUpper index pages (b ∷ bs) end = (one : ℕ) × (rest : ℕ) ×
+    HasUpper index pages b.op b.value one × AreUpper index pages bs rest × (end ≡ min one rest)
 
 -- the interval between both, where the searches found their ends
 abbrev pub HasInterval : KeyIndex → (ℕ → List ℕ) → List Bound → Interval → Type 0
-HasInterval index pages bounds found = (upper : ℕ) × AreLower index pages bounds found.from × AreUpper index pages bounds upper × (found.upto ≡ max found.from upper)
+HasInterval index pages bounds found = (upper : ℕ) × AreLower index pages bounds found.from ×
+    AreUpper index pages bounds upper × (found.upto ≡ max found.from upper)
 
 -- one of the searches stops at this bad page
 abbrev pub StopsInterval : KeyIndex → (ℕ → List ℕ) → List Bound → BadPage → Type 0
 StopsInterval index pages [] bad = ⊥
-StopsInterval index pages (b ∷ bs) bad = StopsLower index pages b.op b.value bad ⊎ StopsUpper index pages b.op b.value bad ⊎ StopsInterval index pages bs bad
+StopsInterval index pages (b ∷ bs) bad =
+    StopsLower index pages b.op b.value bad ⊎ StopsUpper index pages b.op b.value bad ⊎ StopsInterval index pages bs bad
