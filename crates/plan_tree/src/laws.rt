@@ -57,19 +57,31 @@ pub fn position_laws()
 pub fn shape_laws()
     ensures out { (stored : Stored) (before : List Piece) (values : List (List (List Value))) (piece : Piece) (position : ℕ) → HoldsBytes stored → HaveShapes before values → IsPiece before piece → HasShape piece.layout piece.end (out stored values piece position) }
     ensures value { (stored : Stored) (before : List Piece) (values : List (List (List Value))) (piece : Piece) → HoldsBytes stored → HaveShapes before values → IsPiece before piece → HasShape piece.layout piece.end (value_of stored values piece) }
-    ensures list { (stored : Stored) (pieces : List Piece) → HoldsBytes stored → AreWellFormed pieces → HaveShapes pieces (values_of stored pieces) }
+    ensures list { (stored : Stored) (pieces : List Piece) → HoldsBytes stored →
+        AreWellFormed pieces → HaveShapes pieces (values_of stored pieces) }
 {}
 
-/// The value of each fragment of a list rests on those before it: later fragments don't change it, and what its positions
-/// give rests on the values of its inputs alone.
+/// The value of each fragment of a list rests on those before it: later fragments don't change it,
+/// in a well-formed list it is the fragment's value over the values of the whole list, and what its
+/// positions give rests on the values of its inputs alone.
 pub fn input_laws()
-    ensures earlier { (stored : Stored) (pieces : List Piece) (number : ℕ) (piece : Piece) → slice_get pieces number ≡ Some piece → value_at (values_of stored pieces) number ≡ value_of stored (values_of stored (take number pieces)) piece }
-    ensures later { (stored : Stored) (pieces more : List Piece) (number : ℕ) → number < length pieces → value_at (values_of stored (pieces ++ more)) number ≡ value_at (values_of stored pieces) number }
+    ensures earlier { (stored : Stored) (pieces : List Piece) (number : ℕ) (piece : Piece) →
+        slice_get pieces number ≡ Some piece →
+        value_at (values_of stored pieces) number ≡ value_of stored (values_of stored (take number pieces)) piece }
+    ensures later { (stored : Stored) (pieces more : List Piece) (number : ℕ) →
+        number < length pieces →
+        value_at (values_of stored (pieces ++ more)) number ≡ value_at (values_of stored pieces) number }
+    ensures whole { (stored : Stored) (pieces : List Piece) (number : ℕ) (piece : Piece) →
+        AreWellFormed pieces → slice_get pieces number ≡ Some piece →
+        value_at (values_of stored pieces) number ≡ value_of stored (values_of stored pieces) piece }
     ensures inputs { (stored : Stored) (values : List (List (List Value))) (piece : Piece) (position : ℕ) → out_from stored (input_values values piece) piece position ≡ out stored values piece position }
 {}
 
-/// A fragment's value, as it is kept, is its end's value of what its positions give, and has the value's rows.
+/// A fragment's value, as it is kept, is its end's value of what its positions give, and has the
+/// value's rows.
 pub fn end_laws()
-    ensures value { (stored : Stored) (values : List (List (List Value))) (piece : Piece) → IsEndValue piece.end piece.layout (all_outs stored values piece) (kept_value stored values piece) }
-    ensures rows { (stored : Stored) (values : List (List (List Value))) (piece : Piece) → rows_of (kept_value stored values piece).lists ≡ value_of stored values piece }
+    ensures value { (stored : Stored) (values : List (List (List Value))) (piece : Piece) →
+        IsEndValue piece.end piece.layout (all_outs stored values piece) (kept_value stored values piece) }
+    ensures rows { (stored : Stored) (values : List (List (List Value))) (piece : Piece) →
+        rows_of (kept_value stored values piece).lists ≡ value_of stored values piece }
 {}
