@@ -29,8 +29,9 @@ ghost use Rattle.plan_tree.specs.TreeLaws.{FitColumns, NamesOwn, ReadsRows, Same
 ghost use Rattle.plan_tree.specs.WellFormed.{AreWellFormed, HasShape, IsPiece};
 
 /// Every tree of a query, of whatever shape and under either method, means the query: where its scans keep the rows of
-/// their tables that pass their tests, in whatever order they read them, its rows give the query's answer. The tables are
-/// those of a resolved query, or any whose rows fit some columns, whatever the bounds of their integers.
+/// their tables that pass their tests, in whatever order they read them, its rows give the query's
+/// answer. The tables are those of a resolved query, or any whose rows fit some columns, whatever the
+/// bounds of their integers.
 pub fn tree_laws()
     ensures tables { (db : List Table) (q : Question) (m : Method) (t : Shape) (scanned : ℕ → Way → List (List Value)) → IsResolved db q → IsTree q m t → ScanReads db q scanned t → tree_answer db q scanned t ≡ meaning db q }
     ensures columns { (db : List Table) (q : Question) (m : Method) (t : Shape) (columns : ℕ → List LayoutColumn) (scanned : ℕ → Way → List (List Value)) → FitColumns db q columns → NamesOwn q → IsTree q m t → ReadsRows columns (rows_for db q.vars) scanned t → answer_over columns q scanned t ≡ meaning db q }
