@@ -34,7 +34,7 @@ module _ (values : List (List (List Value))) where
       ∙ through_same (front ++ p.input ∷ []) ps p.layout (after (value_at values p.input))
 
   module _ (stored : Stored) (position : ℕ) where
-    piped_same : (from : Source) (columns : List Column) (tests : List Expression) (probes : List Probing) →
+    pub piped_same : (from : Source) (columns : List Column) (tests : List Expression) (probes : List Probing) →
         piped stored (map (value_at values) (source_inputs from ++ probe_inputs probes)) (numbered_pipe (record { source = from; columns = columns; tests = tests; probes = probes })) position
         ≡ piped stored values (record { source = from; columns = columns; tests = tests; probes = probes }) position
     piped_same source.One columns tests probes = through_same [] probes _ _

@@ -22,3 +22,4 @@ pub mod Positions
 pub mod InputOuts
 pub mod ValueLists
 pub mod EndParts
+pub mod InputValues

@@ -1,4 +1,5 @@
--- What is kept of a fragment's positions: the lists by position and the columns of the key where it is looked up, and otherwise one list.
+-- What is kept of a fragment's positions: the lists by position and the columns of the key where it
+-- is looked up, and otherwise one list.
 use Rattle.std.specs.Prelude.{◌≡◌, List, [], ◌∷◌, map, false}
 use Rattle.std.specs.List.{range_with_len}
 use Rattle.rows.specs.declared.value.Value.{Value}
@@ -13,11 +14,16 @@ use Rattle.plan_tree.specs.Fragments.{Stored, out, value_of}
 abbrev pub one_list : List (List Value) → Table
 one_list rows = record { lists = rows ∷ []; columns = [] }
 
--- the table is the end's value of what some positions gave, in order; where these are partials of some lists of rows, it has the partial of all their rows
+-- the table is the end's value of what some positions gave, in order; where these are the partials of
+-- some lists of rows, it has the partial of all their rows
 abbrev pub IsEndValue : Ending → List LayoutPart → List (List (List Value)) → Table → Type 0
-IsEndValue (building keys) layout parts table = table ≡ record { lists = parts; columns = places_of layout keys }
-IsEndValue (answering targets unique keys) layout parts table = table ≡ one_list (arranged unique keys (rows_of parts))
-IsEndValue (folding targets fold) layout parts table = (lists : List (List (List Value))) × (parts ≡ map (partial fold) lists) × (table ≡ one_list (partial fold (rows_of lists)))
+IsEndValue (building keys) layout parts table =
+    table ≡ record { lists = parts; columns = places_of layout keys }
+IsEndValue (answering targets unique keys) layout parts table =
+    table ≡ one_list (arranged unique keys (rows_of parts))
+IsEndValue (folding targets fold) layout parts table =
+    (lists : List (List (List Value))) × (parts ≡ map (partial fold) lists)
+    × (table ≡ one_list (partial fold (rows_of lists)))
 IsEndValue (sorting keys) layout parts table = table ≡ one_list (arranged false keys (rows_of parts))
 
 -- what all positions of a fragment give, in order
@@ -32,4 +38,5 @@ kept_by (sorting keys) layout parts value = one_list value
 
 -- a fragment's value, as it is kept
 abbrev pub kept_value : Stored → List (List (List Value)) → Piece → Table
-kept_value stored values piece = kept_by piece.end piece.layout (all_outs stored values piece) (value_of stored values piece)
+kept_value stored values piece =
+    kept_by piece.end piece.layout (all_outs stored values piece) (value_of stored values piece)

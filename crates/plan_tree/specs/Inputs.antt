@@ -16,7 +16,8 @@ source_inputs (source.Merge left right keys left_layout right_layout) = left ∷
 abbrev pub probe_inputs : List Probing → List ℕ
 probe_inputs probes = map (λ p. p.input) probes
 
--- the numbers of the fragments that a fragment reads: those of its source, and then those of its probes, in order
+-- the numbers of the fragments that a fragment reads: those of its source, and then those of its
+-- probes, in order
 abbrev pub inputs_of : Piece → List ℕ
 inputs_of piece = source_inputs piece.pipe.source ++ probe_inputs piece.pipe.probes
 
@@ -32,8 +33,10 @@ numbered_from n (p ∷ ps) = record p { input = n } ∷ numbered_from (n + 1) ps
 abbrev pub numbered_source : Source → Source
 numbered_source source.One = source.One
 numbered_source (source.Heap var file) = source.Heap var file
-numbered_source (source.Index var index heap_file interval) = source.Index var index heap_file interval
-numbered_source (source.Merge left right keys left_layout right_layout) = source.Merge 0 1 keys left_layout right_layout
+numbered_source (source.Index var index heap_file interval) =
+    source.Index var index heap_file interval
+numbered_source (source.Merge left right keys left_layout right_layout) =
+    source.Merge 0 1 keys left_layout right_layout
 
 abbrev pub numbered_pipe : Piping → Piping
 numbered_pipe pipe = record {

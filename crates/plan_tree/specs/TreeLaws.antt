@@ -20,19 +20,26 @@ abbrev pub SameRows : List (List Value) → List (List Value) → Type 0
 SameRows xs ys = (row : List Value) → occurrences (row_cmp []) row xs ≡ occurrences (row_cmp []) row ys
 
 -- a scan keeps, in any order, those of its variable's rows that pass its tests
-abbrev pub ReadsRows : (ℕ → List LayoutColumn) → (ℕ → List (List Value)) → (ℕ → Way → List (List Value)) → Shape → Type 0
+abbrev pub ReadsRows : (ℕ → List LayoutColumn) → (ℕ → List (List Value)) →
+    (ℕ → Way → List (List Value)) → Shape → Type 0
 ReadsRows columns rows scanned (one tests) = ⊤
 ReadsRows columns rows scanned (scan v w tests) =
-    SameRows (kept (one_part v (columns v)) tests (scanned v w)) (kept (one_part v (columns v)) tests (rows v))
-ReadsRows columns rows scanned (join m a b keys tests) = ReadsRows columns rows scanned a × ReadsRows columns rows scanned b
+    SameRows (kept (one_part v (columns v)) tests (scanned v w))
+    (kept (one_part v (columns v)) tests (rows v))
+ReadsRows columns rows scanned (join m a b keys tests) =
+    ReadsRows columns rows scanned a × ReadsRows columns rows scanned b
 
 -- the variables' rows are those of their tables
 abbrev pub ScanReads : List Table → Question → (ℕ → Way → List (List Value)) → Shape → Type 0
 ScanReads db q scanned t = ReadsRows (columns_for db q.vars) (rows_for db q.vars) scanned t
 
--- the values of the targets for the rows of a tree, in the order of an answer, where the variables have these columns
-abbrev pub answer_over : (ℕ → List LayoutColumn) → Question → (ℕ → Way → List (List Value)) → Shape → List (List Value)
-answer_over columns q scanned t = arranged q.unique q.keys (targets_of q.targets (layout_of_tree columns t) (tree_rows columns scanned t))
+-- the values of the targets for the rows of a tree, in the order of an answer, where the variables
+-- have these columns
+abbrev pub answer_over : (ℕ → List LayoutColumn) → Question → (ℕ → Way → List (List Value)) →
+    Shape → List (List Value)
+answer_over columns q scanned t =
+    arranged q.unique q.keys
+    (targets_of q.targets (layout_of_tree columns t) (tree_rows columns scanned t))
 
 -- where they have those of their tables
 abbrev pub tree_answer : List Table → Question → (ℕ → Way → List (List Value)) → Shape → List (List Value)

@@ -94,12 +94,15 @@ pub record IsMerge (before : List Piece) (left right : ℕ) (keys : List KeyPair
   pub apart : AreApart left_layout right_layout
   pub pairs : AllByRecursion (IsPair left_layout right_layout) keys
 
--- a source with so many positions, of a fragment that reads so many pages: the positions of a heap file are its pages
+-- a source with so many positions, of a fragment that reads so many pages: the positions of a heap
+-- file are its pages
 abbrev pub IsSource : List Piece → Source → List Column → ℕ → ℕ → Type 0
 IsSource before source.One columns positions pages = (columns ≡ []) × (positions ≡ 1)
 IsSource before (source.Heap var file) columns positions pages = positions ≡ pages
-IsSource before (source.Index var index heap_file interval) columns positions pages = IsIndexed index interval × (positions ≡ interval.upto - interval.from)
-IsSource before (source.Merge left right keys left_layout right_layout) columns positions pages = IsMerge before left right keys left_layout right_layout × (columns ≡ []) × (positions ≡ merge_slices)
+IsSource before (source.Index var index heap_file interval) columns positions pages =
+    IsIndexed index interval × (positions ≡ interval.upto - interval.from)
+IsSource before (source.Merge left right keys left_layout right_layout) columns positions pages =
+    IsMerge before left right keys left_layout right_layout × (columns ≡ []) × (positions ≡ merge_slices)
 
 -- what a probe reads: rows that are built by its keys, or, without keys, the answer of an earlier statement, beside nothing else
 abbrev pub ReadsBuilt : List Piece → List LayoutPart → Probing → Type 0

@@ -114,8 +114,8 @@ impl Fragment {
     ghost use Rattle.plan_tree.specs.Inputs.{inputs_of};
     ghost use Rattle.plan_tree.specs.Pieces.{piece_of};
 
-    /// The number of the input at a place, counted from 0: a merge's two sides come first, and then the inputs of the probes
-    /// in their order. `None` behind the last. It takes no memory.
+    /// The number of the input at a place, counted from 0: a merge's two sides come first, and then
+    /// the inputs of the probes in their order. `None` behind the last. It takes no memory.
     pub fn input(&self, place: usize) -> Option<u32>
         ensures { result ≡ slice_get (inputs_of (piece_of self.now)) place }
     {

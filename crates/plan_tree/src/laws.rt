@@ -29,8 +29,9 @@ ghost use Rattle.plan_tree.specs.TreeLaws.{FitColumns, NamesOwn, ReadsRows, Same
 ghost use Rattle.plan_tree.specs.WellFormed.{AreWellFormed, HasShape, IsPiece};
 
 /// Every tree of a query, of whatever shape and under either method, means the query: where its scans keep the rows of
-/// their tables that pass their tests, in whatever order they read them, its rows give the query's answer. The tables are
-/// those of a resolved query, or any whose rows fit some columns, whatever the bounds of their integers.
+/// their tables that pass their tests, in whatever order they read them, its rows give the query's
+/// answer. The tables are those of a resolved query, or any whose rows fit some columns, whatever the
+/// bounds of their integers.
 pub fn tree_laws()
     ensures tables { (db : List Table) (q : Question) (m : Method) (t : Shape) (scanned : ℕ → Way → List (List Value)) → IsResolved db q → IsTree q m t → ScanReads db q scanned t → tree_answer db q scanned t ≡ meaning db q }
     ensures columns { (db : List Table) (q : Question) (m : Method) (t : Shape) (columns : ℕ → List LayoutColumn) (scanned : ℕ → Way → List (List Value)) → FitColumns db q columns → NamesOwn q → IsTree q m t → ReadsRows columns (rows_for db q.vars) scanned t → answer_over columns q scanned t ≡ meaning db q }
@@ -57,19 +58,31 @@ pub fn position_laws()
 pub fn shape_laws()
     ensures out { (stored : Stored) (before : List Piece) (values : List (List (List Value))) (piece : Piece) (position : ℕ) → HoldsBytes stored → HaveShapes before values → IsPiece before piece → HasShape piece.layout piece.end (out stored values piece position) }
     ensures value { (stored : Stored) (before : List Piece) (values : List (List (List Value))) (piece : Piece) → HoldsBytes stored → HaveShapes before values → IsPiece before piece → HasShape piece.layout piece.end (value_of stored values piece) }
-    ensures list { (stored : Stored) (pieces : List Piece) → HoldsBytes stored → AreWellFormed pieces → HaveShapes pieces (values_of stored pieces) }
+    ensures list { (stored : Stored) (pieces : List Piece) → HoldsBytes stored →
+        AreWellFormed pieces → HaveShapes pieces (values_of stored pieces) }
 {}
 
-/// The value of each fragment of a list rests on those before it: later fragments don't change it, and what its positions
-/// give rests on the values of its inputs alone.
+/// The value of each fragment of a list rests on those before it: later fragments don't change it,
+/// in a well-formed list it is the fragment's value over the values of the whole list, and what its
+/// positions give rests on the values of its inputs alone.
 pub fn input_laws()
-    ensures earlier { (stored : Stored) (pieces : List Piece) (number : ℕ) (piece : Piece) → slice_get pieces number ≡ Some piece → value_at (values_of stored pieces) number ≡ value_of stored (values_of stored (take number pieces)) piece }
-    ensures later { (stored : Stored) (pieces more : List Piece) (number : ℕ) → number < length pieces → value_at (values_of stored (pieces ++ more)) number ≡ value_at (values_of stored pieces) number }
+    ensures earlier { (stored : Stored) (pieces : List Piece) (number : ℕ) (piece : Piece) →
+        slice_get pieces number ≡ Some piece →
+        value_at (values_of stored pieces) number ≡ value_of stored (values_of stored (take number pieces)) piece }
+    ensures later { (stored : Stored) (pieces more : List Piece) (number : ℕ) →
+        number < length pieces →
+        value_at (values_of stored (pieces ++ more)) number ≡ value_at (values_of stored pieces) number }
+    ensures whole { (stored : Stored) (pieces : List Piece) (number : ℕ) (piece : Piece) →
+        AreWellFormed pieces → slice_get pieces number ≡ Some piece →
+        value_at (values_of stored pieces) number ≡ value_of stored (values_of stored pieces) piece }
     ensures inputs { (stored : Stored) (values : List (List (List Value))) (piece : Piece) (position : ℕ) → out_from stored (input_values values piece) piece position ≡ out stored values piece position }
 {}
 
-/// A fragment's value, as it is kept, is its end's value of what its positions give, and has the value's rows.
+/// A fragment's value, as it is kept, is its end's value of what its positions give, and has the
+/// value's rows.
 pub fn end_laws()
-    ensures value { (stored : Stored) (values : List (List (List Value))) (piece : Piece) → IsEndValue piece.end piece.layout (all_outs stored values piece) (kept_value stored values piece) }
-    ensures rows { (stored : Stored) (values : List (List (List Value))) (piece : Piece) → rows_of (kept_value stored values piece).lists ≡ value_of stored values piece }
+    ensures value { (stored : Stored) (values : List (List (List Value))) (piece : Piece) →
+        IsEndValue piece.end piece.layout (all_outs stored values piece) (kept_value stored values piece) }
+    ensures rows { (stored : Stored) (values : List (List (List Value))) (piece : Piece) →
+        rows_of (kept_value stored values piece).lists ≡ value_of stored values piece }
 {}

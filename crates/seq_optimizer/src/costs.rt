@@ -162,12 +162,13 @@ fn tree_set(tree: &Tree) -> u32
     }
 }
 
-/// How many rows the variables that a tree scans together are taken to have, 1 for a tree that scans none. Each of them is
-/// a variable of the query. It takes no memory.
+/// How many rows the variables that a tree scans are together taken to have, 1 for a tree that
+/// scans none. Each of them is a variable of the query. It takes no memory.
 pub fn estimate_of(query: &Query, stats: &VarStatsList, tree: &Tree) -> u64
     requires plan { CanPlan (question_of query.now) stats.now }
     requires scans { ScansBelow (length (question_of query.now).vars) (shape_of tree.now) }
-    ensures { let cs = conjuncts (question_of query.now).test in result ≡ set_size cs (variable_sizes cs stats.now) (has (shape_of tree.now)) }
+    ensures { let cs = conjuncts (question_of query.now).test in
+        result ≡ set_size cs (variable_sizes cs stats.now) (has (shape_of tree.now)) }
 {
     let mut sizes = [0; MOST_VARS];
     let sizes = &mut sizes[..stats.len()];

@@ -8,6 +8,9 @@ ghost use Rattle.seq_optimizer.specs.Best.{IsBestTree};
 
 /// A query has one plan under some stats and a method: the chosen tree is one, and so is its cost.
 pub fn one_plan()
-    ensures tree { (q : Question) (stats : List VarStats) (m : Method) (t u : Shape) (price other : ℕ) → IsBestTree q stats m t price → IsBestTree q stats m u other → t ≡ u }
-    ensures price { (q : Question) (stats : List VarStats) (m : Method) (t u : Shape) (price other : ℕ) → IsBestTree q stats m t price → IsBestTree q stats m u other → price ≡ other }
+    ensures tree { (q : Question) (stats : List VarStats) (m : Method) (t u : Shape)
+        (price other : ℕ) → IsBestTree q stats m t price → IsBestTree q stats m u other → t ≡ u }
+    ensures price { (q : Question) (stats : List VarStats) (m : Method) (t u : Shape)
+        (price other : ℕ) → IsBestTree q stats m t price → IsBestTree q stats m u other →
+        price ≡ other }
 {}
