@@ -77,7 +77,7 @@ maps_to f (x ∷ xs) (y ∷ ys) len h =
     ap (λ (z : _). z ∷ map f xs) (h 0 x y refl refl) ∙ ap (λ (zs : List _). y ∷ zs) (maps_to f xs ys (omega (arith, len)) (λ n a b at_a at_b. h (suc n) a b at_a at_b))
 
 -- the item is a row's
-no_stranger : (columns : List Column) (rows : List (List Value)) (blocks : List (List (List ℕ))) (n : ℕ) (block : List (List ℕ)) → length columns ≤ 32 → All (IsRowOf columns) rows →
+pub no_stranger : (columns : List Column) (rows : List (List Value)) (blocks : List (List (List ℕ))) (n : ℕ) (block : List (List ℕ)) → length columns ≤ 32 → All (IsRowOf columns) rows →
     joined blocks ≡ map (row_bytes columns) rows → slice_get blocks n ≡ Some block → HasStranger columns block → ⊥
 no_stranger columns rows blocks n block few each same at s =
     let j = in_joined blocks n block s.0 s.1 at s.2 in

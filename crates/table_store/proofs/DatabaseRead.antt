@@ -22,7 +22,7 @@ use Rattle.table_store.specs.Databases.{ReadCause, TellTables}
 use Rattle.table_store.specs.Readings.{TableCause, TellRows, TellsBreak}
 use Rattle.table_store.proofs.Again.{tell_kept}
 use Rattle.table_store.proofs.Encoded.{take_one}
-use Rattle.heap_page.proofs.Drives.{fault_earlier, quiet_none, quiet_trans, read_none, read_trans}
+use Rattle.heap_page.proofs.Drives.{quiet_none, quiet_trans, read_none, read_trans}
 use Rattle.table_store.proofs.Pages.{cause_earlier}
 
 abbrev pub columns_of_tables : List Table → List (List Column)

@@ -10,3 +10,4 @@ pub mod DatabaseRead
 pub mod Placed
 mod EntryExamples
 mod Fitting
+pub mod Untold

@@ -33,7 +33,7 @@ module _ {D : Type 0} (g : Ghosts D) where
     caused_err ShelfFault made same = absurd made
     caused_err (DriveFault None) made same = (job, asks, made.0, made.1, same)
     caused_err (DriveFault (Some d)) made same = (job, asks, made.0, made.1, same)
-    caused_err (Bad bad) made same = (job, asks, made.0, made.1, same)
+    caused_err (Bad bad) made same = (job, asks, made, same)
     caused_err SinkFault made same = absurd made
     caused_err NoMemory made same = same
     caused_err (DriveFull d needs capacity) made same = (job, asks, made, same)

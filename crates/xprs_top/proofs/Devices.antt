@@ -1,6 +1,7 @@
 -- What drives show.
 use Rattle.std.proofs.Common.{◌≡◌, ℕ, zero, suc, Bool, List, [], ◌∷◌, length, take, ◌++◌, Option, Some, None, Ok, Err, refl, sym, ap, subst, ◌∙◌, arith, inl, inr}
-use Rattle.std.specs.Prelude.{is_some, IsTrue, ◌⊎◌}
+use Rattle.std.specs.Prelude.{is_some, IsTrue, ◌⊎◌, ◌<◌, ◌≤◌, ◌^◌, slice_get}
+use Rattle.std.proofs.lemmas.Nat.{mod_below}
 use Rattle.std.specs.Global.{Vec}
 use Rattle.xp_outside.specs.declared.drive.Drive.{Ghosts}
 use Rattle.heap_page.specs.declared.errors.BadPage.{BadPage}
@@ -9,22 +10,36 @@ use Rattle.heap_page.specs.declared.errors.FetchErr.TheVariants as fetch
 use Rattle.heap_page.specs.declared.errors.StoreErr.{StoreErr}
 use Rattle.heap_page.specs.declared.errors.StoreErr.TheVariants as store
 use Rattle.heap_page.specs.declared.map.FileMap.{FileMap}
+use Rattle.heap_page.specs.Blocks.{ArePages}
+use Rattle.heap_page.specs.Maps.{drive_of}
+use Rattle.heap_page.specs.Pages.{fault_of, items_of, page_of}
 use Rattle.heap_page.specs.Stores.{AreRead, IsFault}
 use Rattle.heap_page.proofs.Found.{get_below, there}
 use Rattle.rel_meaning.specs.declared.query.Table.{Table}
 use Rattle.table_store.specs.declared.database.Laid.{Laid}
 use Rattle.table_store.specs.declared.files.StoredTable.{StoredTable}
-use Rattle.table_store.specs.Databases.{AllFresh, AreKept, IsLaidOut, LayoutCause, ReadCause, TellTables}
+use Rattle.table_store.specs.Databases.{AllFresh, AreKept, IsBadPage, IsLaidOut, LayoutCause, MayStore, ReadCause, TellTables}
+use Rattle.table_store.specs.Files.{file_number}
 use Rattle.table_store.specs.Images.{HoldImage}
 use Rattle.table_store.specs.Readings.{AllTell}
 use Rattle.table_store.proofs.Laying.{kept_reading, kept_trans}
 use Rattle.table_store.proofs.Pages.{room_read}
+use Rattle.table_store.proofs.Untold.{file_is, rule_is, untold_page, within}
 use Rattle.xprs_top.specs.Answers.{answers_bytes}
-use Rattle.xprs_top.specs.Devices.{Fit, HasFailed, IsUntold, Makes}
+use Rattle.xprs_top.specs.Devices.{Fit, HasFailed, IsUntold, Makes, ReadsBad}
 use Rattle.xprs_top.specs.declared.goal.Goal.{Goal}
 use Rattle.xprs_top.specs.declared.goal.Goal.TheVariants.{Answers}
 use Rattle.xprs_top.specs.Readings.{Checked, over}
 use Rattle.xprs_top.specs.Statuses.{of_fetch, of_store}
+
+-- what is known of the pages of items
+abbrev pub PagesAccepted : Type 0
+PagesAccepted = (file number : ℕ) (items block : List (List ℕ)) (blocks : List (List (List ℕ))) → file < 2 ^ 32 → number < 2 ^ 32 → ArePages items blocks → slice_get blocks number ≡ Some block →
+    fault_of file number (page_of file number block) ≡ None
+
+abbrev pub PagesAgain : Type 0
+PagesAgain = (file number : ℕ) (items block : List (List ℕ)) (blocks : List (List (List ℕ))) → file < 2 ^ 32 → number < 2 ^ 32 → ArePages items blocks → slice_get blocks number ≡ Some block →
+    items_of (page_of file number block) ≡ block
 
 module _ {D : Type 0} (g : Ghosts D) where
   -- all drives tell, or one doesn't
@@ -77,7 +92,7 @@ module _ {D : Type 0} (g : Ghosts D) where
       record { drive = lay.3.new; here = lay.3.is; some = omega (arith, lay.3.rose) },
     )
     lay_made goal olds mids (store.DriveFull d needs capacity) count fresh kept (tables, stored, lay) =
-        record { count = kept.len ∙ count; layout = record { tables = tables; stored = stored; map_of = lay.0; is = rw (← count) lay.1 }; full = lay.2 }
+        record { count = kept.len ∙ count; layout = record { tables = tables; stored = stored; map_of = lay.0; is = rw (← count) lay.1 }; full = lay.2; unwritten = subst (AllFresh g) (sym lay.3) fresh }
     lay_made goal olds mids store.NoMemory count fresh kept cause = tt
 
     module _ (olds mids news : List D) (laid : Laid) (count : length olds ≡ 4) (fresh : AllFresh g olds) (kept : AreKept g olds mids) (out : IsLaidOut g checked.catalog db olds mids laid) (read : AreRead g mids news) where
@@ -91,13 +106,23 @@ module _ {D : Type 0} (g : Ghosts D) where
       pub tell_mids : AllTell g news → TellTables g laid db mids
       tell_mids all = out.tell (tell_before olds news (kept_trans g olds mids news kept (kept_reading g mids news read)) all)
 
-      abbrev NeverBad : FetchErr → Type 0
-      NeverBad e = (bad : BadPage) → TellTables g laid db mids → ◌≡◌ {A = FetchErr} e (fetch.BadPage bad) → ⊥
+      -- a page that was read is bad, and its drive doesn't tell it
+      bad_read : (bad : BadPage) (is : IsBadPage g laid checked.catalog mids bad) → ((drive : D) → slice_get mids (drive_of laid.map bad.page) ≡ Some drive → g.pages drive ≡ None) →
+          ((drive : D) → slice_get mids (drive_of laid.map bad.page) ≡ Some drive → (1 ≤ bad.rule) × (bad.rule ≤ 9)) → is.place < length out.tables → bad.file ≡ file_number out.tables is.place →
+          ReadsBad g (over Answers checked db) bad news
+      bad_read bad is untold ruled within file =
+          let low : drive_of laid.map bad.page < length mids = omega (arith, mod_below bad.page laid.map.drives out.are.of.is_map.some, out.are.of.drives_are, kept.len) in
+          let mid = there mids (drive_of laid.map bad.page) low in
+          let new = there news (drive_of laid.map bad.page) (omega (arith, low, read.len)) in
+          let told = (read.each (drive_of laid.map bad.page) mid.0 new.0 mid.1 new.1).told in
+          (is_fit, record { table = is.place; within = within; file = file; page = is.page; rule = ruled mid.0 mid.1; drive = new.0; here = new.1; untold = told ∙ untold mid.0 mid.1 })
 
-      pub read_made : (goal : Goal) (e : FetchErr) → ReadCause g laid checked.catalog mids news e → NeverBad e → Makes g (over goal checked db) before now news (Err (of_fetch e))
-      read_made goal (fetch.DriveFault d) cause never = (is_fit, record { drive = cause.new; here = cause.is; some = omega (arith, cause.rose) })
-      read_made goal (fetch.BadPage bad) cause never = (is_fit, untold news (λ all. never bad (tell_mids all) refl))
-      read_made goal fetch.NoMemory cause never = tt
+      pub read_made : (may : MayStore checked.catalog db) (accepted : PagesAccepted) (again : PagesAgain) (e : FetchErr) → ReadCause g laid checked.catalog mids news e → Makes g (over Answers checked db) before now news (Err (of_fetch e))
+      read_made may accepted again (fetch.DriveFault d) cause = (is_fit, record { drive = cause.new; here = cause.is; some = omega (arith, cause.rose) })
+      read_made may accepted again (fetch.BadPage bad) cause =
+          bad_read bad cause (untold_page accepted again g checked.catalog db olds mids laid may fresh out bad cause) (rule_is accepted again g checked.catalog db olds mids laid may fresh out bad cause)
+          (within accepted again g checked.catalog db olds mids laid may fresh out bad cause) (file_is accepted again g checked.catalog db olds mids laid may fresh out bad cause)
+      read_made may accepted again fetch.NoMemory cause = tt
 
       pub text_made : (found : List Table) (text : Vec ℕ) → (TellTables g laid db mids → found ≡ db) → text.items ≡ answers_bytes found checked.questions → Makes g (over Answers checked db) before now news (Ok text)
       text_made found text again is =

@@ -1,17 +1,21 @@
 -- Plans over tables that are laid on drives.
-use Rattle.std.proofs.Common.{◌≡◌, ◌≤◌, ◌<◌, ℕ, zero, suc, List, [], ◌∷◌, length, map, get_or, Some, Result, Ok, Err, refl, sym, subst, arith, IfErr, IfOk}
-use Rattle.std.specs.Prelude.{slice_get, All}
+use Rattle.std.proofs.Common.{◌≡◌, ◌≤◌, ◌<◌, ℕ, zero, suc, ◌+◌, List, [], ◌∷◌, length, map, get_or, Option, None, Some, Result, Ok, Err, refl, sym, ap, ◌∙◌, subst, arith, IfErr, IfOk}
+use Rattle.std.specs.Prelude.{slice_get, All, IsSome}
 use Rattle.std.specs.Global.{Vec}
 use Rattle.xp_outside.specs.declared.drive.Drive.{Ghosts}
 use Rattle.heap_page.specs.declared.errors.BadPage.{BadPage}
 use Rattle.heap_page.specs.declared.errors.FetchErr.{FetchErr}
 use Rattle.heap_page.specs.declared.errors.FetchErr.TheVariants as fetch
 use Rattle.heap_page.specs.Stores.{AreRead}
-use Rattle.heap_page.proofs.Found.{there}
+use Rattle.heap_page.proofs.Found.{get_below, there}
+use Rattle.key_index.specs.Files.{index_of}
+use Rattle.rows.specs.declared.plain.KeyIndex.{KeyIndex}
 use Rattle.rows.specs.declared.plain.Relation.{Relation}
 use Rattle.rel_meaning.specs.declared.query.Table.{Table}
 use Rattle.table_store.specs.declared.database.Laid.{Laid}
+use Rattle.table_store.specs.declared.files.StoredIndex.{StoredIndex}
 use Rattle.table_store.specs.declared.files.StoredTable.{StoredTable}
+use Rattle.table_store.specs.Files.{file_number, index_numbers, numbers_in, table_blocks}
 use Rattle.table_store.specs.Databases.{AllFresh, AreKept, IsLaidOut, MayStore}
 use Rattle.table_store.specs.Images.{HoldImage}
 use Rattle.table_store.specs.Readings.{AllTell}
@@ -45,6 +49,11 @@ pub few_rows : (relations : List Relation) (db : List Table) → MayStore relati
 few_rows relations db may = λ k d lt.
     let relation = there relations k (omega (arith, lt, may.count)) in (may.each k relation.0 (get_or db k d) relation.1 (here db k d lt)).short.0
 
+-- the numbers of an index are those of one that is stored, of this file
+numbered : (file pages : ℕ) (stored : Option StoredIndex) (index : KeyIndex) → Some index ≡ numbers_in file pages stored → IsSome stored × (index.file ≡ file)
+numbered file pages None index e = absurd cc
+numbered file pages (Some stored) index e = let same : index ≡ index_of file stored.key_type pages stored.entries = cc in (refl, ap (λ (i : KeyIndex). i.file) same)
+
 module _ {D : Type 0} (g : Ghosts D) where
   -- tables that are laid out are counted right
   pub counted : (relations : List Relation) (db : List Table) (olds mids : List D) (laid : Laid) (rows : List ℕ) (out : IsLaidOut g relations db olds mids laid) → MayStore relations db → length olds ≡ 4 →
@@ -74,7 +83,21 @@ module _ {D : Type 0} (g : Ghosts D) where
 
     made_err : (e : FetchErr) → PlanCause g laid mids news e → NeverBad (Err e) → Makes g (over (Plans m) checked db) before now news (Err (of_fetch e))
     made_err (fetch.DriveFault d) cause never = (fit, record { drive = cause.new; here = cause.is; some = omega (arith, cause.rose) })
-    made_err (fetch.BadPage bad) cause never = (fit, untold g news (λ all. never out.tables bad are (out.image fresh) (all_mids all) refl))
+    made_err (fetch.BadPage bad) cause never =
+        let at = there out.tables cause.table (omega (arith, get_below laid.indexes.items cause.table (Some cause.index) cause.stands, out.are.index_count)) in
+        let numbers : Some cause.index ≡ index_numbers out.tables cause.table at.0 = out.are.indexes cause.table at.0 (Some cause.index) at.1 cause.stands in
+        let known = numbered (file_number out.tables cause.table + 1) (length (table_blocks at.0)) at.0.index cause.index numbers in (
+          fit,
+          record {
+            table = cause.table;
+            stored = at.0;
+            here = at.1;
+            indexed = known.0;
+            file = cause.file ∙ known.1;
+            page = cause.there;
+            untold = untold g news (λ all. never out.tables bad are (out.image fresh) (all_mids all) refl);
+          },
+        )
     made_err fetch.NoMemory cause never = tt
 
     pub made_plans : (plans : Result (List Plan) FetchErr) (text : Result (Vec ℕ) Status) → Planned plans → NeverBad plans → IfErr plans (PlanCause g laid mids news) → Explains plans text → Makes g (over (Plans m) checked db) before now news text

@@ -5,7 +5,10 @@ use Rattle.xp_outside.specs.declared.drive.Drive.{Ghosts}
 use Rattle.table_store.specs.Readings.{AllTell}
 use Rattle.xprs_top.specs.declared.status.Status.{Status}
 use Rattle.xprs_top.specs.declared.status.Status.TheVariants.{Done, Usage, Refused, ShelfFault, DriveFault, Bad, SinkFault, NoMemory, DriveFull, NotBuilt}
-use Rattle.xprs_top.specs.Devices.{Exceeds, IsRoomy, IsUntold}
+use Rattle.heap_page.specs.declared.errors.BadPage.{BadPage}
+use Rattle.heap_page.specs.Maps.{drive_of}
+use Rattle.xprs_top.specs.declared.goal.Goal.TheVariants.{Answers, Plans}
+use Rattle.xprs_top.specs.Devices.{Exceeds, IsRoomy, IsUntold, ReadsBad}
 use Rattle.xprs_top.specs.Readings.{Files, IsJob, Job, write, over}
 use Rattle.xprs_top.specs.Runs.{Asks, Caused, Completes, Faulty, Outside, Refuses}
 use Rattle.xprs_top.specs.Words.{Request}
@@ -61,6 +64,12 @@ module _ {D : Type 0} (g : Ghosts D) where
       let room = roomy full.layout d full.full.drive full.full.here in
       omega (arith, room, full.full.small, full.full.needs_is, full.full.capacity_is)
 
+  -- where a page is bad some drive doesn't tell
+  untold_of : (job : Job) (bad : BadPage) (drives : List D) → ReadsBad g job bad drives → IsUntold g drives
+  untold_of (write text) bad drives h = absurd h
+  untold_of (over Answers checked db) bad drives (fit, page) = record { number = drive_of fit.layout.map_of bad.page; drive = page.drive; here = page.here; untold = page.untold }
+  untold_of (over (Plans m) checked db) bad drives (fit, page) = page.untold
+
   pub completed : (form : Option Request) (o : Outside) (drives : List D) (status : Status) → Caused g form o drives status → Completes g form o drives status
   completed form o drives Done h request files job e f k all none roomy s r w = tt
   completed form o drives Usage h request files job e f k all none roomy s r w = cc
@@ -68,7 +77,7 @@ module _ {D : Type 0} (g : Ghosts D) where
   completed form o drives ShelfFault h request files job e f k all none roomy s r w = s h.0
   completed form o drives (DriveFault None) h request files job e f k all none roomy s r w = r h.2
   completed form o drives (DriveFault (Some d)) h request files job e f k all none roomy s r w = none d h.3
-  completed form o drives (Bad bad) h request files job e f k all none roomy s r w = not_untold drives all h.3
+  completed form o drives (Bad bad) h request files job e f k all none roomy s r w = not_untold drives all (untold_of h.0 bad drives h.2)
   completed form o drives SinkFault h request files job e f k all none roomy s r w = w h.1
   completed form o drives NoMemory h request files job e f k all none roomy s r w = tt
   completed form o drives (DriveFull d needs capacity) h request files job e f k all none roomy s r w =

@@ -1,18 +1,22 @@
 -- What a job leaves on its drives, and what shows that it failed there.
-use Rattle.std.specs.Prelude.{◌≡◌, ◌⊎◌, ℕ, ◌<◌, List, [], length, slice_get, Some, None, Result, Ok, Err, ⊤}
+use Rattle.std.specs.Prelude.{◌≡◌, ◌⊎◌, ℕ, ◌+◌, ◌<◌, ◌≤◌, IsSome, List, [], length, slice_get, Some, None, Result, Ok, Err, ⊤}
 use Rattle.std.specs.Global.{Vec}
 use Rattle.xp_outside.specs.Outside.{Rose}
 use Rattle.xp_outside.specs.declared.drive.Drive.{Ghosts}
 use Rattle.heap_page.specs.declared.map.FileMap.{FileMap}
+use Rattle.heap_page.specs.declared.errors.BadPage.{BadPage}
+use Rattle.heap_page.specs.Maps.{HasPage, drive_of}
 use Rattle.heap_page.specs.Stores.{HaveRoom, IsFull}
 use Rattle.rows.specs.declared.plain.Relation.{Relation}
 use Rattle.rel_meaning.specs.declared.query.Table.{Table}
 use Rattle.table_store.specs.declared.files.StoredTable.{StoredTable}
-use Rattle.table_store.specs.Databases.{AreStored, IsMapOf}
+use Rattle.table_store.specs.Databases.{AllFresh, AreStored, IsMapOf}
+use Rattle.table_store.specs.Files.{file_number}
 use Rattle.table_store.specs.Images.{HoldImage}
 use Rattle.table_store.specs.Readings.{AllTell}
 use Rattle.xprs_top.specs.declared.status.Status.{Status}
 use Rattle.xprs_top.specs.declared.status.Status.TheVariants.{DriveFault, Bad, NoMemory, DriveFull}
+use Rattle.xprs_top.specs.declared.goal.Goal.TheVariants.{Answers, Plans}
 use Rattle.xprs_top.specs.Readings.{Job, write, over}
 use Rattle.xprs_top.specs.Texts.{IsText}
 
@@ -51,16 +55,46 @@ module _ {D : Type 0} (g : Ghosts D) where
     pub layout : Layout relations db 4
     pub room : HaveRoom g layout.map_of drives
 
-  -- this drive is the first one that has fewer pages than the tables need there
+  -- A page of the heap file of some table whose drive doesn't tell it, and the number of a rule of such pages, 1 to 9.
+  pub record IsBadHeapPage (tables : List StoredTable) (map_of : FileMap) (bad : BadPage) (drives : List D) : Type 0 where
+    pub table : ℕ
+    pub within : table < length tables
+    pub file : bad.file ≡ file_number tables table
+    pub page : HasPage map_of.files.items bad.file bad.page
+    pub rule : (1 ≤ bad.rule) × (bad.rule ≤ 9)
+    pub drive : D
+    pub here : slice_get drives (drive_of map_of bad.page) ≡ Some drive
+    pub untold : g.pages drive ≡ None
+
+  -- A page of the index of some table, on drives of which some don't tell.
+  pub record IsBadIndexPage (tables : List StoredTable) (map_of : FileMap) (bad : BadPage) (drives : List D) : Type 0 where
+    pub table : ℕ
+    pub stored : StoredTable
+    pub here : slice_get tables table ≡ Some stored
+    pub indexed : IsSome stored.index
+    pub file : bad.file ≡ file_number tables table + 1
+    pub page : HasPage map_of.files.items bad.file bad.page
+    pub untold : IsUntold drives
+
+  -- this drive is the first one that has fewer pages than the tables need there, and nothing was written
   pub record IsOverfull (relations : List Relation) (db : List Table) (d needs capacity : ℕ) (drives : List D) : Type 0 where
     pub count : length drives ≡ 4
     pub layout : Layout relations db 4
     pub full : IsFull g layout.map_of d needs capacity drives
+    pub unwritten : AllFresh g drives
 
   -- the same of the tables of a job; a job that only writes has none
   abbrev pub Fits : Job → List D → Type 0
   Fits (write text) drives = ⊥
   Fits (over goal checked db) drives = Fit checked.catalog db drives
+
+  -- a page that was read is bad: for answers one of a heap file, for plans one of an index
+  abbrev pub ReadsBad : Job → BadPage → List D → Type 0
+  ReadsBad (write text) bad drives = ⊥
+  ReadsBad (over Answers checked db) bad drives =
+      (fit : Fit checked.catalog db drives) × IsBadHeapPage fit.layout.tables fit.layout.map_of bad drives
+  ReadsBad (over (Plans m) checked db) bad drives =
+      (fit : Fit checked.catalog db drives) × IsBadIndexPage fit.layout.tables fit.layout.map_of bad drives
 
   abbrev pub Exceeds : Job → ℕ → ℕ → ℕ → List D → Type 0
   Exceeds (write text) d needs capacity drives = ⊥
@@ -81,7 +115,7 @@ module _ {D : Type 0} (g : Ghosts D) where
   Makes job before now drives (Ok text) = Holds job drives × (AllTell g drives → IsText job text.items)
   Makes job before now drives (Err (DriveFault None)) = Rose before now × (drives ≡ [])
   Makes job before now drives (Err (DriveFault (Some d))) = Fits job drives × HasFailed d drives
-  Makes job before now drives (Err (Bad bad)) = Fits job drives × IsUntold drives
+  Makes job before now drives (Err (Bad bad)) = ReadsBad job bad drives
   Makes job before now drives (Err (DriveFull d needs capacity)) = Exceeds job d needs capacity drives
   Makes job before now drives (Err NoMemory) = ⊤
   Makes job before now drives (Err other) = ⊥

@@ -8,7 +8,7 @@ use Rattle.xprs_top.specs.declared.status.Status.{Status}
 use Rattle.xprs_top.specs.declared.status.Status.TheVariants.{Done, Usage, Refused, ShelfFault, DriveFault, Bad, SinkFault, NoMemory, DriveFull, NotBuilt}
 use Rattle.xprs_top.specs.declared.words.Verb.{Verb}
 use Rattle.xprs_top.specs.declared.words.Verb.TheVariants.{Alone, Check, Explain}
-use Rattle.xprs_top.specs.Devices.{Exceeds, Fits, HasFailed, Holds, IsRoomy, IsUntold, NoneFailed}
+use Rattle.xprs_top.specs.Devices.{Exceeds, Fits, HasFailed, Holds, IsRoomy, NoneFailed, ReadsBad}
 use Rattle.xprs_top.specs.Faults.{fault_line}
 use Rattle.xprs_top.specs.Inputs.{OnFiles}
 use Rattle.xprs_top.specs.Readings.{Files, IsJob, Job}
@@ -95,7 +95,7 @@ module _ {D : Type 0} (g : Ghosts D) where
   Caused form o drives ShelfFault = Rose o.shelf_before o.shelf_now × (drives ≡ []) × (o.new ≡ o.old)
   Caused form o drives (DriveFault None) = (job : Job) × Asks o.files form job × Rose o.rack_before o.rack_now × (drives ≡ []) × (o.new ≡ o.old)
   Caused form o drives (DriveFault (Some d)) = (job : Job) × Asks o.files form job × Fits g job drives × HasFailed g d drives × (o.new ≡ o.old)
-  Caused form o drives (Bad bad) = (job : Job) × Asks o.files form job × Fits g job drives × IsUntold g drives × (o.new ≡ o.old)
+  Caused form o drives (Bad bad) = (job : Job) × Asks o.files form job × ReadsBad g job bad drives × (o.new ≡ o.old)
   Caused form o drives SinkFault = (job : Job) × Rose o.out_before o.out_now × Asks o.files form job × Holds g job drives × (AllTell g drives → (text : List ℕ) × IsText job text × AppendsFront o.old o.new text)
   Caused form o drives NoMemory = o.new ≡ o.old
   Caused form o drives (DriveFull d needs capacity) = (job : Job) × Asks o.files form job × Exceeds g job d needs capacity drives × (o.new ≡ o.old)

@@ -15,6 +15,7 @@ use crate::Status;
 use crate::input::Checked;
 use crate::made::Made;
 use crate::spelling::answer_text;
+use heap_page::block_laws;
 use rel_meaning::{Database, Query, answer_plain};
 use std::alloc::{AllocError, Global};
 use table_store::{lay_database, read_database};
@@ -78,6 +79,7 @@ fn laid_answers<D: Drive>(
     ensures count { length drives.new ≡ 4 }
     ensures made { (before now : ℕ) → Makes D.Drive (over Answers (read_of checked.now) db) before now drives.new result }
 {
+    block_laws();
     let laid = match lay_database(alloc, drives, &checked.catalog, &db) {
         Ok(laid) => laid,
         Err(error) => return Err(Status::from(error)),

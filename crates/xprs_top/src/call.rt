@@ -77,7 +77,9 @@ pub fn answer_alone<S: Shelf, K: Rack, W: Sink, E: Sink>(
 ) -> Outcome<K::Drive>
     // Done: where all drives tell, the output got exactly the text that the words and the files mean, and each drive that
     // tells holds exactly its part of the tables. Each other status has its cause, and at each but Done and SinkFault the
-    // output got nothing.
+    // output got nothing. Bad names, for `alone`, a page of a table's heap file that its drive doesn't tell, and one of the
+    // rules 1 to 9, and for `explain` a page of an index, where some drive doesn't tell. At DriveFull the drives are as they
+    // were mounted: zeros where they tell.
     ensures cause { Caused K.Drive.Drive (form_of (map string_bytes words.now)) (outside (S.files shelf.old) (S.faults shelf.old) (S.faults shelf.new) (K.faults rack.old) (K.faults rack.new) (W.faults out.old) (W.faults out.new) (W.written out.old) (W.written out.new)) result.drives.items result.status }
     // Usage comes wherever the words are no form; by the clause before it comes nowhere else.
     ensures usage { form_of (map string_bytes words.now) ≡ None → result.status ≡ Status.Usage }

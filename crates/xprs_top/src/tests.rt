@@ -544,8 +544,31 @@ fn an_index_is_searched_where_a_statement_bounds_its_column(rt: HostRuntime) -> 
         let left = answer(alloc, &["explain", "cat", "q"], files, devices)?;
         assert_eq!(rt; left.as_slice(), lines(alloc, wanted)?.as_slice());
     }
-    let left = wild_answer(alloc, "explain", numbered_files(alloc, few)?, 0, 1)?;
-    let bad = lines(alloc, "5 xprs: bad page: file 1 page 2 rule 1|")?;
-    assert_eq!(rt; left.as_slice(), bad.as_slice());
+    Ok(())
+}
+
+#[test]
+fn an_index_page_that_breaks_a_rule_is_bad(rt: HostRuntime) -> Result<(), Fail> {
+    let alloc = rt.alloc();
+    // the root, of which the search uses the second item: its page number begins at byte 36
+    let rules: [(u32, u8, &str); 9] = [
+        (0, 1, "1"),
+        (5, 1, "2"),
+        (18, 1, "3"),
+        (11, 1, "4"),
+        (15, 1, "5"),
+        (17, 2, "6"),
+        (6, 128, "7"),
+        (8191, 1, "8"),
+        (36, 1, "9"),
+    ];
+    for (byte, mask, rule) in rules {
+        let mut wanted = lines(alloc, "5 xprs: bad page: file 1 page 2 rule ")?;
+        wanted.extend_from_slice(rule.as_bytes())?;
+        wanted.push(b'\n')?;
+        let files = numbered_files(alloc, "retrieve (NUM.n) where NUM.n > 995 \\g")?;
+        let left = wild_answer(alloc, "explain", files, byte, mask)?;
+        assert_eq!(rt; left.as_slice(), wanted.as_slice());
+    }
     Ok(())
 }

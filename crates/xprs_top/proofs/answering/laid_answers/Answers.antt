@@ -1,5 +1,3 @@
-use Rattle.std.proofs.Common.{ap, Err}
-use Rattle.heap_page.specs.declared.errors.FetchErr.{FetchErr}
 use Rattle.xprs_top.specs.declared.goal.Goal.TheVariants.{Answers}
 use Rattle.xprs_top.specs.Inputs.{read_of}
 use Rattle.xprs_top.proofs.Devices.{lay_made, read_made, text_made}
@@ -16,8 +14,7 @@ returns-in-Err-read_database-clause-made g c = λ before now.
     let may = c.requires.answerable.stored in
     rw c.from-in-Err-read_database.ensures
     (read_made g.D.Drive (read_of c.args.checked.now) c.args.db before now c.args.drives.now c.lay_database.new.drives c.read_database.new.drives c.in-Ok.laid c.requires.count c.requires.fresh c.in-Ok.ensures.kept
-    c.in-Ok.ensures.laid c.in-Err-read_database.ensures.read Answers c.in-Err-read_database.error c.in-Err-read_database.ensures.err
-    (λ bad tell is. c.in-Err-read_database.ensures.accepted c.args.db bad (columns_agree c.args.checked.now.catalog c.args.db may.count may.each) tell (ap (λ (e : FetchErr). Err e) is)))
+    c.in-Ok.ensures.laid c.in-Err-read_database.ensures.read may c.block_laws.ensures.accepted c.block_laws.ensures.again c.in-Err-read_database.error c.in-Err-read_database.ensures.err)
 
 pub answers-requires : goal.answers-requires
 answers-requires g c =
