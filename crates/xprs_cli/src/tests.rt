@@ -10,6 +10,7 @@ use std::test::Fail;
 use xp_outside::{Drive, PAGE, Rack, RackErr, Shelf, ShelfErr, Sink, pour};
 
 // Gives a byte a call, and fails at the call of a number.
+#[derive(Drop)]
 struct Trickle {
     left: u32,
     calls: u32,
