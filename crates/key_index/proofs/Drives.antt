@@ -1,5 +1,5 @@
 -- Pages of an index on drives.
-use Rattle.std.proofs.Common.{◌≡◌, ℕ, zero, suc, ◌+◌, ◌-◌, ◌<◌, ◌≤◌, List, [], ◌∷◌, ◌++◌, length, get_or, take, drop, map, flat_map, Some, refl, sym, ap, ap₂, subst, ◌∙◌, arith, inl, inr, length-append}
+use Rattle.std.proofs.Common.{◌≡◌, ℕ, zero, suc, ◌+◌, ◌-◌, ◌<◌, ◌≤◌, List, [], ◌∷◌, ◌++◌, length, get_or, take, drop, map, flat_map, None, Some, refl, sym, ap, ap₂, subst, ◌∙◌, arith, inl, inr, length-append}
 use Rattle.std.specs.Prelude.{slice_get, slice_range, ◌⊎◌}
 use Rattle.std.specs.List.{All, AllByRecursion}
 use Rattle.std.proofs.lemmas.Bool.{cases_lt}
@@ -9,7 +9,7 @@ use Rattle.xp_outside.specs.declared.drive.Drive.{Ghosts}
 use Rattle.heap_page.specs.declared.map.FileMap.{FileMap}
 use Rattle.heap_page.specs.Blocks.{joined, weight_of}
 use Rattle.heap_page.specs.Maps.{drive_of, address_of, IsPlace, HasPage, HasPages}
-use Rattle.heap_page.specs.Stores.{TellsAt, AreWritten, HaveRoom}
+use Rattle.heap_page.specs.Stores.{TellsAt, AreQuiet, AreWritten, HaveRoom}
 use Rattle.rows.specs.declared.plain.KeyEntry.{KeyEntry}
 use Rattle.key_index.specs.Bytes.{item_bytes, page_of, tail_bytes, weight}
 use Rattle.key_index.specs.Entries.{Item}
@@ -19,7 +19,7 @@ use Rattle.key_index.specs.declared.node.Node.{Node}
 use Rattle.key_index.specs.declared.node.Level.{Level}
 use Rattle.key_index.specs.Nodes.{AreKeys, IsLevel, IsNode, level_blocks, node_item, node_items, starts_of}
 use Rattle.key_index.specs.Written.{AllStand, FirstStand}
-use Rattle.heap_page.proofs.Drives.{apart, room_kept, tells_kept, wrote_none, wrote_trans}
+use Rattle.heap_page.proofs.Drives.{apart, quiet_none, quiet_trans, room_kept, tells_kept, wrote_none, wrote_trans}
 use Rattle.heap_page.proofs.Found.{get_below, there}
 use Rattle.key_index.proofs.Indexed.{level_page}
 use Rattle.key_index.proofs.Nodes.{blocks_are, levels_here, root_pages, some_blocks, starts_count}
@@ -50,6 +50,7 @@ module _ {D : Type 0} (g : Ghosts D) where
 
   pub record Writing (map : FileMap) (file : ℕ) (pages : List (List ℕ)) (base done : ℕ) (olds news : List D) : Type 0 where
     pub wrote : AreWritten g (IsPlace map file) olds news
+    pub quiet : AreQuiet g None olds news
     pub stands : FirstStand g map file pages base olds → FirstStand g map file pages (base + done) news
     pub room : HaveRoom g map news
     pub len : length news ≡ map.drives
@@ -58,6 +59,7 @@ module _ {D : Type 0} (g : Ghosts D) where
     pub starts : HaveRoom g map olds → length olds ≡ map.drives → Writing map file pages base 0 olds olds
     starts room len = record {
       wrote = wrote_none g (IsPlace map file) olds;
+      quiet = quiet_none g None olds;
       stands = λ h. let e : base + 0 ≡ base = omega arith in subst (λ (n : ℕ). FirstStand g map file pages n olds) (sym e) h;
       room = room;
       len = len;
@@ -71,9 +73,10 @@ module _ {D : Type 0} (g : Ghosts D) where
     pub writes : (done : ℕ) (page : List ℕ) (bs cs : List D) → Writing map file pages base done olds bs → HasPage map.files.items file (base + done) → slice_get pages (base + done) ≡ Some page →
         AreWritten g (λ d a. (d ≡ drive_of map (base + done)) × (a ≡ address_of map file (base + done))) bs cs →
         ((drive : D) → slice_get cs (drive_of map (base + done)) ≡ Some drive → TellsAt (g.pages drive) (address_of map file (base + done)) page) →
-        Writing map file pages base (done + 1) olds cs
-    writes done page bs cs w has at h now = record {
+        AreQuiet g None bs cs → Writing map file pages base (done + 1) olds cs
+    writes done page bs cs w has at h now quiet = record {
       wrote = wrote_page done bs cs w has h;
+      quiet = quiet_trans g None olds bs cs w.wrote.len w.quiet quiet;
       stands = λ before.
           let e : base + done + 1 ≡ base + (done + 1) = omega arith in
           subst (λ (n : ℕ). FirstStand g map file pages n cs) e (first_more map file (base + done) pages page bs cs at h now (w.stands before));
@@ -247,6 +250,7 @@ module _ {D : Type 0} (g : Ghosts D) where
   pub record Stage (map : FileMap) (file : ℕ) (entries : List KeyEntry) (level : Level) (olds news : List D) : Type 0 where
     pub is_level : IsLevel entries level
     pub wrote : AreWritten g (IsPlace map file) olds news
+    pub quiet : AreQuiet g None olds news
     pub stands : FirstStand g map file (index_pages file entries) level.base news
     pub room : HaveRoom g map news
     pub len : length news ≡ map.drives
@@ -256,6 +260,7 @@ module _ {D : Type 0} (g : Ghosts D) where
     first_stage level h z room len = record {
       is_level = h;
       wrote = wrote_none g (IsPlace map file) olds;
+      quiet = quiet_none g None olds;
       stands = rw z (none_stand g map file (index_pages file entries) olds);
       room = room;
       len = len;
@@ -264,11 +269,12 @@ module _ {D : Type 0} (g : Ghosts D) where
     pub both_wrote : (bs cs : List D) → AreWritten g (IsPlace map file) olds bs → AreWritten g (IsPlace map file) bs cs → AreWritten g (IsPlace map file) olds cs
     both_wrote bs cs one two = wrote_trans g (IsPlace map file) (IsPlace map file) (IsPlace map file) olds bs cs (λ d x k. k) (λ d x k. k) one two
 
-    pub next_stage : (level next : Level) (bs cs : List D) → Stage map file entries level olds bs → AreWritten g (IsPlace map file) bs cs → FirstStand g map file (index_pages file entries) (level.base + length level.starts.items) cs → IsLevel entries next → next.base ≡ level.base + length level.starts.items →
+    pub next_stage : (level next : Level) (bs cs : List D) → Stage map file entries level olds bs → AreWritten g (IsPlace map file) bs cs → FirstStand g map file (index_pages file entries) (level.base + length level.starts.items) cs → AreQuiet g None bs cs → IsLevel entries next → next.base ≡ level.base + length level.starts.items →
         Stage map file entries next olds cs
-    next_stage level next bs cs s w stands h b = record {
+    next_stage level next bs cs s w stands quiet h b = record {
       is_level = h;
       wrote = both_wrote bs cs s.wrote w;
+      quiet = quiet_trans g None olds bs cs s.wrote.len s.quiet quiet;
       stands = rw b stands;
       room = room_kept g map (IsPlace map file) bs cs w s.room;
       len = w.len ∙ s.len;

@@ -2,7 +2,7 @@
 ghost use Rattle.std.specs.Prelude.{◌≡◌, ◌+◌, ◌^◌, ◌<◌, ◌≤◌, Some, OnOk, IfErr, IfOk, length, slice_get, slice_index_or, slice_range, []};
 ghost use Rattle.std.specs.List.{All};
 ghost use Rattle.heap_page.specs.Maps.{IsMap, IsPlace, HasPage, HasPages, drive_of, address_of};
-ghost use Rattle.heap_page.specs.Stores.{AreWritten, HaveRoom, StoreCause, TellsAt};
+ghost use Rattle.heap_page.specs.Stores.{AreQuiet, AreWritten, HaveRoom, StoreCause, TellsAt, store_fault};
 ghost use Rattle.key_index.specs.Bytes.{page_of};
 ghost use Rattle.key_index.specs.Entries.{AreEntries};
 ghost use Rattle.key_index.specs.Files.{index_of, index_pages};
@@ -86,6 +86,7 @@ fn write_page<D: Drive>(
     requires level { IsLevel entries.now level.now }
     requires place { place < length level.now.starts.items }
     ensures written { AreWritten D.Drive (λ d a. (d ≡ drive_of map.now (level.now.base + place)) × (a ≡ address_of map.now file (level.now.base + place))) drives.old drives.new }
+    ensures quiet { AreQuiet D.Drive (store_fault result) drives.old drives.new }
     ensures ok { OnOk result ((drive : _) → slice_get drives.new (drive_of map.now (level.now.base + place)) ≡ Some drive → TellsAt (D.pages drive) (address_of map.now file (level.now.base + place)) (page_of file (level.now.base + place) level.now.number (slice_index_or (level_blocks entries.now level.now.nodes.items level.now.number) place []))) }
     ensures err { IfErr result (StoreCause D.Drive map.now drives.old drives.new) }
 {
@@ -110,6 +111,7 @@ fn write_level<D: Drive>(
     requires few { length entries.now ≤ 1000000 }
     requires level { IsLevel entries.now level.now }
     ensures written { AreWritten D.Drive (IsPlace map.now file) drives.old drives.new }
+    ensures quiet { AreQuiet D.Drive (store_fault result) drives.old drives.new }
     ensures ok { FirstStand D.Drive map.now file (index_pages file entries.now) level.now.base drives.old → OnOk result (FirstStand D.Drive map.now file (index_pages file entries.now) (level.now.base + length level.now.starts.items) drives.new) }
     ensures err { IfErr result (StoreCause D.Drive map.now drives.old drives.new) }
 {
@@ -136,6 +138,7 @@ fn write_levels<D: Drive>(
     requires some { 0 < length entries.now }
     requires few { length entries.now ≤ 1000000 }
     ensures written { AreWritten D.Drive (IsPlace map.now file) drives.old drives.new }
+    ensures quiet { AreQuiet D.Drive (store_fault result) drives.old drives.new }
     ensures ok { OnOk result (AllStand D.Drive map.now file (index_pages file entries.now) drives.new) }
     ensures err { IfErr result (StoreCause D.Drive map.now drives.old drives.new) }
 {
@@ -149,8 +152,8 @@ fn write_levels<D: Drive>(
 
 /// Writes the pages of the index over these entries, which are as for `plan_index` and whose numbers the index has; the map
 /// gives its file as many pages. `DriveFull` comes exactly where some drive is smaller than its files need, with the first
-/// such drive, its need and its number of pages, before any write. `DriveFault` comes only where that drive's count rises.
-/// After an `Ok` the pages stand at the file's addresses, where a drive tells them. Whatever the answer, each drive keeps
+/// such drive, its need and its number of pages, before any write. `DriveFault` comes only where that drive's count rises,
+/// and no other count does. After an `Ok` the pages stand at the file's addresses, where a drive tells them. Whatever the answer, each drive keeps
 /// its number of pages, tells exactly where it told, and tells the same at every address that is none of the file's.
 pub fn write_index<D: Drive>(
     alloc: Global,
@@ -165,6 +168,7 @@ pub fn write_index<D: Drive>(
     requires index { index.now ≡ index_of index.now.file index.now.key_type index.now.heap_pages entries.now }
     requires pages { HasPages map.now.files.items index.now.file index.now.pages }
     ensures written { AreWritten D.Drive (IsPlace map.now index.now.file) drives.old drives.new }
+    ensures quiet { AreQuiet D.Drive (store_fault result) drives.old drives.new }
     ensures room { OnOk result (HaveRoom D.Drive map.now drives.old) }
     ensures ok { OnOk result (AllStand D.Drive map.now index.now.file (index_pages index.now.file entries.now) drives.new) }
     ensures err { IfErr result (StoreCause D.Drive map.now drives.old drives.new) }

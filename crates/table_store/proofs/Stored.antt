@@ -10,8 +10,8 @@ use Rattle.heap_page.specs.declared.map.FileMap.{FileMap}
 use Rattle.heap_page.specs.Blocks.{ArePages}
 use Rattle.heap_page.specs.Maps.{address_of, drive_of, shares, HasPage, HasPages, IsMap, IsPlace}
 use Rattle.heap_page.specs.Pages.{page_of}
-use Rattle.heap_page.specs.Stores.{AreWritten, IsFull, HaveRoom, Stand, StoreCause, TellsAt}
-use Rattle.heap_page.proofs.Drives.{cause_later, fault_before, not_full, room_before, room_kept, tells_kept, wrote_none, wrote_trans}
+use Rattle.heap_page.specs.Stores.{AreQuiet, AreWritten, IsFull, HaveRoom, Stand, StoreCause, TellsAt}
+use Rattle.heap_page.proofs.Drives.{cause_later, fault_before, not_full, quiet_none, quiet_trans, room_before, room_kept, tells_kept, wrote_none, wrote_trans}
 use Rattle.heap_page.proofs.Found.{get_below, one_at, there}
 use Rattle.key_index.specs.Files.{index_pages}
 use Rattle.key_index.specs.Written.{AllStand}
@@ -80,11 +80,12 @@ module _ {D : Type 0} (g : Ghosts D) where
   pub record Storing (map_of : FileMap) (tables : List StoredTable) (olds : List D) (done file : ℕ) (news : List D) : Type 0 where
     pub file_is : file ≡ file_number tables done
     pub wrote : AreWritten g (IsTablePlace map_of tables) olds news
+    pub quiet : AreQuiet g None olds news
     pub stand : (number : ℕ) (table : StoredTable) → number < done → slice_get tables number ≡ Some table → HoldTable g map_of (file_number tables number) table news
     pub begun : ((done ≡ 0) × (news ≡ olds)) ⊎ HaveRoom g map_of olds
 
   pub starts : (map_of : FileMap) (tables : List StoredTable) (olds : List D) → Storing map_of tables olds 0 0 olds
-  starts map_of tables olds = record { file_is = refl; wrote = wrote_none g (IsTablePlace map_of tables) olds; stand = λ n t lt. absurd (omega arith); begun = inl (refl, refl) }
+  starts map_of tables olds = record { file_is = refl; wrote = wrote_none g (IsTablePlace map_of tables) olds; quiet = quiet_none g None olds; stand = λ n t lt. absurd (omega arith); begun = inl (refl, refl) }
 
   module _ (map_of : FileMap) (tables : List StoredTable) (files : map_of.files.items ≡ files_of tables) (each : All IsStorable tables) (m : IsMap map_of)
       (apart : (map_of : FileMap) (file page other number : ℕ) → IsMap map_of → HasPage map_of.files.items file page → HasPage map_of.files.items other number → drive_of map_of page ≡ drive_of map_of number → address_of map_of file page ≡ address_of map_of other number → file ≡ other) where
@@ -116,12 +117,13 @@ module _ {D : Type 0} (g : Ghosts D) where
     }
 
     pub stored : (olds bs cs : List D) (done file count : ℕ) (table : StoredTable) → Storing map_of tables olds done file bs → slice_get tables done ≡ Some table → count ≡ length (files_of_table table) →
-        AreWritten g (IsPlaceOf map_of file table) bs cs → HaveRoom g map_of bs → HoldTable g map_of file table cs →
+        AreWritten g (IsPlaceOf map_of file table) bs cs → AreQuiet g None bs cs → HaveRoom g map_of bs → HoldTable g map_of file table cs →
         Storing map_of tables olds (done + 1) (file + count) cs
-    stored olds bs cs done file count table s at n w room now =
+    stored olds bs cs done file count table s at n w quiet room now =
         record {
           file_is = omega (arith, s.file_is, n, next_number tables done table at);
           wrote = wrote_more olds bs cs done file table s w;
+          quiet = quiet_trans g None olds bs cs s.wrote.len s.quiet quiet;
           stand = λ number t less at_t. elim (cases_lt number done) [
             | inl before ↦ stays bs cs number file t table (omega (arith, up_to tables number done before (get_below tables done table at), next_number tables number t at_t, s.file_is)) at_t w (s.stand number t before at_t)
             | inr ge ↦ (

@@ -1,6 +1,6 @@
 //! Databases on drives.
 ghost use Rattle.std.specs.Prelude.{◌≡◌, ◌<◌, ◌≤◌, ◌^◌, ℕ, List, Some, None, Option, IfOk, IfErr, All, length, slice_get};
-ghost use Rattle.heap_page.specs.Stores.{HaveRoom};
+ghost use Rattle.heap_page.specs.Stores.{AreQuiet, HaveRoom, store_fault};
 ghost use Rattle.rows.specs.declared.plain.Column.{Column};
 ghost use Rattle.rows.specs.declared.plain.KeyIndex.{KeyIndex};
 ghost use Rattle.rows.specs.declared.value.Value.{Value};
@@ -124,6 +124,7 @@ fn lay<D: Drive>(alloc: Global, drives: &mut [D], tables: &[StoredTable]) -> Res
     requires few { length tables.now ≤ 16 }
     requires tables { All IsStorable tables.now }
     ensures kept { AreKept D.Drive drives.old drives.new }
+    ensures quiet { AreQuiet D.Drive (store_fault result) drives.old drives.new }
     ensures laid { IfOk result (IsLaid tables.now (length drives.old)) }
     ensures room { IfOk result (λ laid. HaveRoom D.Drive laid.map drives.new) }
     ensures image { AllFresh D.Drive drives.old → IfOk result (λ laid. HoldImage D.Drive laid.map tables.now drives.new) }
@@ -144,7 +145,7 @@ fn lay<D: Drive>(alloc: Global, drives: &mut [D], tables: &[StoredTable]) -> Res
 /// Lays a database on drives: each relation's rows in the pages of its heap file and, where it has an index, the entries
 /// of the index in the pages of the file behind it, file after file, striped over the drives. There are 1 to 4,294,967,295 drives, at most 16 relations and a table of each, with at most 1,000,000 rows whose
 /// encodings have at most 8,168 bytes. `DriveFull` comes exactly where some drive is smaller than the files need there, with
-/// the first such drive, before any write. `DriveFault` comes only where that drive's count rises. After an `Ok` each drive
+/// the first such drive, before any write. `DriveFault` comes only where that drive's count rises, and no other count does. After an `Ok` each drive
 /// that was new and tells holds exactly its part of the files, and zeros elsewhere; drives that all tell, tell the rows of
 /// each table. Whatever the answer, each drive keeps its number of pages and tells exactly where it told.
 pub fn lay_database<D: Drive>(
@@ -157,6 +158,7 @@ pub fn lay_database<D: Drive>(
     requires count { length drives.old < 2 ^ 32 }
     requires stored { MayStore catalog.now db.now }
     ensures kept { AreKept D.Drive drives.old drives.new }
+    ensures quiet { AreQuiet D.Drive (store_fault result) drives.old drives.new }
     ensures laid { IfOk result (IsLaidOut D.Drive catalog.now db.now drives.old drives.new) }
     ensures err { IfErr result (LayoutCause D.Drive catalog.now db.now drives.old drives.new) }
 {

@@ -2,7 +2,7 @@
 ghost use Rattle.std.specs.Prelude.{◌≡◌, ◌+◌, ◌<◌, ◌≤◌, ◌^◌, ℕ, List, Some, OnOk, IfErr, length, slice_get, All};
 ghost use Rattle.heap_page.specs.Blocks.{ArePages};
 ghost use Rattle.heap_page.specs.Maps.{HasPages, IsMap, IsPlace};
-ghost use Rattle.heap_page.specs.Stores.{AreWritten, HaveRoom, StoreCause};
+ghost use Rattle.heap_page.specs.Stores.{AreQuiet, AreWritten, HaveRoom, StoreCause, store_fault};
 ghost use Rattle.key_index.specs.Files.{index_pages};
 ghost use Rattle.key_index.specs.Written.{AllStand};
 ghost use Rattle.rows.specs.declared.plain.Column.{Column};
@@ -36,6 +36,7 @@ fn write_index_file<D: Drive>(
     requires index { IsStorableIndex heap_pages index.now }
     requires pages { HasPages map.now.files.items file (length (index_pages file index.now.entries)) }
     ensures written { AreWritten D.Drive (IsPlace map.now file) drives.old drives.new }
+    ensures quiet { AreQuiet D.Drive (store_fault result) drives.old drives.new }
     ensures ok { OnOk result (AllStand D.Drive map.now file (index_pages file index.now.entries) drives.new) }
     ensures err { IfErr result (StoreCause D.Drive map.now drives.old drives.new) }
 {
@@ -58,6 +59,7 @@ fn write_table<D: Drive>(
     requires heap { (blocks : List (List (List ℕ))) → ArePages table.now.items blocks → HasPages map.now.files.items file (length blocks) }
     requires index { (index : StoredIndex) → table.now.index ≡ Some index → HasPages map.now.files.items (file + 1) (length (index_pages (file + 1) index.entries)) }
     ensures written { AreWritten D.Drive (IsPlaceOf map.now file table.now) drives.old drives.new }
+    ensures quiet { AreQuiet D.Drive (store_fault result) drives.old drives.new }
     ensures room { OnOk result (HaveRoom D.Drive map.now drives.old) }
     ensures ok { OnOk result (HoldTable D.Drive map.now file table.now drives.new) }
     ensures err { IfErr result (StoreCause D.Drive map.now drives.old drives.new) }
@@ -76,7 +78,7 @@ fn write_table<D: Drive>(
 /// Writes the pages of tables, each at the places of its heap file in the map, which is that of these tables, and the pages
 /// of its index at the places of the file behind it. `DriveFull`
 /// comes exactly where some drive is smaller than the files need there, with the first such drive, its need and its number
-/// of pages, before any write. `DriveFault` comes only where that drive's count rises. After an `Ok` the pages stand at
+/// of pages, before any write. `DriveFault` comes only where that drive's count rises, and no other count does. After an `Ok` the pages stand at
 /// their places, where a drive tells them: so drives that all tell, tell the rows of each table. Whatever the answer, each
 /// drive keeps its number of pages, tells exactly where it told, and tells the same at every other address.
 pub fn write_tables<D: Drive>(
@@ -91,6 +93,7 @@ pub fn write_tables<D: Drive>(
     requires tables { All IsStorable tables.now }
     requires drives { length drives.old ≡ map.now.drives }
     ensures written { AreWritten D.Drive (IsTablePlace map.now tables.now) drives.old drives.new }
+    ensures quiet { AreQuiet D.Drive (store_fault result) drives.old drives.new }
     ensures room { OnOk result (HaveRoom D.Drive map.now drives.old) }
     ensures room_left { OnOk result (HaveRoom D.Drive map.now drives.new) }
     ensures ok { OnOk result (HoldTables D.Drive map.now tables.now drives.new) }

@@ -2,7 +2,7 @@ use Rattle.std.proofs.Common.{◌+◌, length, arith}
 use Rattle.std.proofs.lemmas.Result.{err_from_is_err_and}
 use Rattle.heap_page.specs.Maps.{IsPlace}
 use Rattle.key_index.specs.Files.{index_pages}
-use Rattle.heap_page.proofs.Drives.{cause_later}
+use Rattle.heap_page.proofs.Drives.{cause_later, quiet_trans}
 use Rattle.key_index.proofs.Drives.{has_page, page_here, starts, writes, wrote_page}
 use Rattle.key_index.proofs.Nodes.{base_small, below_pages}
 use Rattle.key_index.proofs.writing.write_level.Goals as goal
@@ -37,4 +37,9 @@ loop-place-preserved g c =
     (has_page c.args.map.now c.args.file (length (index_pages c.args.file c.args.entries.now)) (c.args.level.now.base + c.loop-place.place) c.requires.pages
     (omega (arith, c.loop-place-test.true, c.len-place-end.ensures, below_pages c.args.entries.now c.args.level.now c.requires.level c.requires.keys c.args.file)))
     (page_here c.args.entries.now c.args.level.now c.requires.level c.requires.keys c.args.file c.loop-place.place (omega (arith, c.loop-place-test.true, c.len-place-end.ensures)))
-    c.write_page.ensures.written c.in_ok-write_page.ensures.ok
+    c.write_page.ensures.written c.in_ok-write_page.ensures.ok c.in_ok-write_page.ensures.quiet
+
+pub returns-in_err-write_page-clause-quiet : goal.returns-in_err-write_page-clause-quiet
+returns-in_err-write_page-clause-quiet g c =
+    let p = err_from_is_err_and c.from_residual.result c.from_residual.ensures.1 in
+    rw (p.1, p.2) (quiet_trans g.D.Drive _ c.args.drives.now c.loop-place.drives c.write_page.new.drives c.loop-place.invariant.wrote.len c.loop-place.invariant.quiet c.in_err-write_page.ensures.quiet)

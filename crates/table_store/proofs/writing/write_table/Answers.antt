@@ -3,7 +3,8 @@ use Rattle.heap_page.specs.Maps.{IsPlace}
 use Rattle.key_index.specs.Files.{index_pages}
 use Rattle.key_index.specs.Written.{AllStand}
 use Rattle.table_store.specs.Images.{HoldTable}
-use Rattle.heap_page.proofs.Drives.{room_kept}
+use Rattle.heap_page.specs.Stores.{store_fault}
+use Rattle.heap_page.proofs.Drives.{quiet_trans, room_kept}
 use Rattle.table_store.proofs.Stored.{both_written, heap_written, hold_both, on_ok, result_cause}
 use Rattle.table_store.proofs.writing.write_table.Goals as goal
 
@@ -33,3 +34,7 @@ returns-in-Some-clause-err g c =
 
 pub returns-in-None-clause-written : goal.returns-in-None-clause-written
 returns-in-None-clause-written g c = heap_written g.D.Drive c.args.map.now c.args.file c.args.table.now c.args.drives.now c.write_relation.new.drives c.write_relation.ensures.written
+
+pub returns-in-Some-clause-quiet : goal.returns-in-Some-clause-quiet
+returns-in-Some-clause-quiet g c =
+    quiet_trans g.D.Drive (store_fault c.write_index_file.result) c.args.drives.now c.write_relation.new.drives c.write_index_file.new.drives c.write_relation.ensures.written.len c.in_ok-write_relation.ensures.quiet c.write_index_file.ensures.quiet

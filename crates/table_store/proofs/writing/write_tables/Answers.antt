@@ -1,6 +1,6 @@
 use Rattle.std.proofs.Common.{◌+◌, arith}
 use Rattle.std.proofs.lemmas.Result.{err_from_is_err_and}
-use Rattle.heap_page.proofs.Drives.{room_kept}
+use Rattle.heap_page.proofs.Drives.{quiet_trans, room_kept}
 use Rattle.heap_page.proofs.Found.{some_at}
 use Rattle.table_store.specs.Files.{IsStorable}
 use Rattle.table_store.specs.Images.{IsTablePlace}
@@ -48,7 +48,7 @@ pub loop-table-preserved : goal.loop-table-preserved
 loop-table-preserved g c =
     let at = some_at c.args.tables.now c.loop-table.table-index c.table-item.result c.loop-table-test.true c.table-item.is in
     stored g.D.Drive c.args.map.now c.args.tables.now c.requires.files c.requires.tables c.requires.map c.place_laws.ensures.file c.args.drives.now c.loop-table.drives c.write_table.new.drives
-    c.loop-table.table-index c.loop-table.file c.file_count-file.result c.table-item.result c.loop-table.invariant at c.file_count-file.ensures c.write_table.ensures.written c.in_ok-write_table.ensures.room c.in_ok-write_table.ensures.ok
+    c.loop-table.table-index c.loop-table.file c.file_count-file.result c.table-item.result c.loop-table.invariant at c.file_count-file.ensures c.write_table.ensures.written c.in_ok-write_table.ensures.quiet c.in_ok-write_table.ensures.room c.in_ok-write_table.ensures.ok
 
 pub returns-clause-ok : goal.returns-clause-ok
 returns-clause-ok g c =
@@ -64,3 +64,8 @@ pub returns-clause-room_left : goal.returns-clause-room_left
 returns-clause-room_left g c =
     room_kept g.D.Drive c.args.map.now (IsTablePlace c.args.map.now c.args.tables.now) c.args.drives.now c.loop-table.drives c.loop-table.invariant.wrote
     (room_at_end g.D.Drive c.args.map.now c.args.tables.now c.requires.files c.requires.tables c.requires.map c.place_laws.ensures.file c.args.drives.now c.loop-table.drives c.loop-table.table-index c.loop-table.file c.loop-table-test.false c.loop-table.invariant)
+
+pub returns-in_err-write_table-clause-quiet : goal.returns-in_err-write_table-clause-quiet
+returns-in_err-write_table-clause-quiet g c =
+    let p = err_from_is_err_and c.from_residual.result c.from_residual.ensures.1 in
+    rw (p.1, p.2) (quiet_trans g.D.Drive _ c.args.drives.now c.loop-table.drives c.write_table.new.drives c.loop-table.invariant.wrote.len c.loop-table.invariant.quiet c.in_err-write_table.ensures.quiet)
