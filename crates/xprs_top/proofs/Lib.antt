@@ -11,3 +11,4 @@ pub mod Explained
 pub mod Caused
 pub mod OneJob
 pub mod Refusals
+pub mod Counts

@@ -8,3 +8,4 @@ pub mod Devices
 pub mod Runs
 pub mod Tasks
 pub mod Statuses
+pub mod Counts

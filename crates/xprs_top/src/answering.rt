@@ -6,6 +6,7 @@ ghost use Rattle.rel_meaning.specs.Meaning.{IsResolved};
 ghost use Rattle.table_store.specs.Databases.{AllFresh};
 ghost use Rattle.xprs_top.specs.Answers.{answer_of, answers_bytes, next_answer};
 ghost use Rattle.xprs_top.specs.declared.goal.Goal.TheVariants.{Answers};
+ghost use Rattle.xprs_top.specs.Counts.{NoOtherFailed, failed_drive};
 ghost use Rattle.xprs_top.specs.Devices.{Makes};
 ghost use Rattle.xprs_top.specs.Inputs.{read_of};
 ghost use Rattle.xprs_top.specs.Readings.{over};
@@ -78,6 +79,7 @@ fn laid_answers<D: Drive>(
     requires answerable { IsAnswerable checked.now db }
     ensures count { length drives.new ≡ 4 }
     ensures made { (before now : ℕ) → Makes D.Drive (over Answers (read_of checked.now) db) before now drives.new result }
+    ensures quiet { NoOtherFailed D.Drive (failed_drive result) drives.new }
 {
     block_laws();
     let laid = match lay_database(alloc, drives, &checked.catalog, &db) {
@@ -103,6 +105,7 @@ pub(crate) fn answered<D: Drive>(
     requires answerable { IsAnswerable checked.now db }
     ensures count { length result.drives.items ≡ 4 }
     ensures made { (before now : ℕ) → Makes D.Drive (over Answers (read_of checked.now) db) before now result.drives.items result.text }
+    ensures quiet { NoOtherFailed D.Drive (failed_drive result.text) result.drives.items }
 {
     let mut drives = drives;
     let text = laid_answers(alloc, drives.as_mut_slice(), checked, db);

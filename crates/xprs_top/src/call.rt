@@ -1,4 +1,6 @@
-ghost use Rattle.std.specs.Prelude.{◌≡◌, None, [], length, map, string_bytes};
+ghost use Rattle.std.specs.Prelude.{◌≡◌, ◌≢◌, None, [], length, map, string_bytes};
+ghost use Rattle.xp_outside.specs.Outside.{Stands};
+ghost use Rattle.xprs_top.specs.Counts.{AsksAlone, NoOtherFailed, failed_drive, named_drive};
 ghost use Rattle.xprs_top.specs.Devices.{IsCount};
 ghost use Rattle.xprs_top.specs.Runs.{AsksCheck, Caused, Completes, IsEarly, Poured, Refuses, Tells, outside};
 ghost use Rattle.xprs_top.specs.Words.{form_of};
@@ -25,6 +27,8 @@ fn early<D>(alloc: Global, status: Status) -> Outcome<D>
 fn poured<W: Sink, D>(out: &mut W, made: Made<D>) -> Outcome<D>
     ensures status { Poured (W.written out.old) (W.written out.new) (W.faults out.old) (W.faults out.new) made.text result.status }
     ensures drives { result.drives ≡ made.drives }
+    ensures quiet { result.status ≢ Status.SinkFault → Stands (W.faults out.old) (W.faults out.new) }
+    ensures others { named_drive result.status ≡ failed_drive made.text }
 {
     let Made { text, drives } = made;
     let status = match text {
@@ -50,6 +54,10 @@ fn run<S: Shelf, K: Rack, W: Sink>(
     ensures usage { form_of (map string_bytes words.now) ≡ None → result.status ≡ Status.Usage }
     ensures check { AsksCheck (form_of (map string_bytes words.now)) → (rack.new ≡ rack.old) × (result.drives.items ≡ []) }
     ensures early { IsEarly result.status → rack.new ≡ rack.old }
+    ensures shelf { result.status ≢ Status.ShelfFault → Stands (S.faults shelf.old) (S.faults shelf.new) }
+    ensures rack { result.status ≢ Status.DriveFault None → Stands (K.faults rack.old) (K.faults rack.new) }
+    ensures out { result.status ≢ Status.SinkFault → Stands (W.faults out.old) (W.faults out.new) }
+    ensures others { AsksAlone (form_of (map string_bytes words.now)) → NoOtherFailed K.Drive.Drive (named_drive result.status) result.drives.items }
     ensures count { IsCount (length result.drives.items) }
 {
     let Some(operands) = read_words(words) else {
@@ -95,6 +103,12 @@ pub fn answer_alone<S: Shelf, K: Rack, W: Sink, E: Sink>(
     ensures files { S.files shelf.new ≡ S.files shelf.old }
     ensures check { AsksCheck (form_of (map string_bytes words.now)) → (rack.new ≡ rack.old) × (result.drives.items ≡ []) }
     ensures early { IsEarly result.status → rack.new ≡ rack.old }
+    // A count that has risen is answered as that failure: at every other status, want of memory among them, the counts of
+    // the shelf, the rack and the output stand, and of the drives of an answer none has failed but the one that is named.
+    ensures shelf { result.status ≢ Status.ShelfFault → Stands (S.faults shelf.old) (S.faults shelf.new) }
+    ensures rack { result.status ≢ Status.DriveFault None → Stands (K.faults rack.old) (K.faults rack.new) }
+    ensures out { result.status ≢ Status.SinkFault → Stands (W.faults out.old) (W.faults out.new) }
+    ensures others { AsksAlone (form_of (map string_bytes words.now)) → NoOtherFailed K.Drive.Drive (named_drive result.status) result.drives.items }
     ensures count { IsCount (length result.drives.items) }
 {
     let outcome = run(alloc, words, shelf, rack, out);

@@ -1,5 +1,7 @@
 //! What the files of a shelf are read as.
-ghost use Rattle.std.specs.Prelude.{◌≡◌, ◌≤◌, All, IfOk, length};
+ghost use Rattle.std.specs.Prelude.{◌≡◌, ◌≢◌, ◌≤◌, All, Err, IfOk, length};
+ghost use Rattle.xp_outside.specs.Outside.{Stands};
+ghost use Rattle.xprs_top.specs.declared.status.Status.TheVariants as status;
 ghost use Rattle.postquel.specs.Program.{program_of};
 ghost use Rattle.catalog_load.specs.Limits.{HasLimits};
 ghost use Rattle.table_store.specs.Databases.{AreShort, IsTableOf, MayStore};
@@ -34,6 +36,7 @@ pub(crate) struct Checked {
 fn fetched<S: Shelf>(alloc: Global, shelf: &mut S, name: &[u8]) -> Result<Vec<u8>, Status>
     ensures files { S.files shelf.new ≡ S.files shelf.old }
     ensures count { S.faults shelf.old ≤ S.faults shelf.new }
+    ensures quiet { result ≢ Err status.ShelfFault → Stands (S.faults shelf.old) (S.faults shelf.new) }
     ensures told { Told (S.files shelf.old) (S.faults shelf.old) (S.faults shelf.new) (λ v. v.items) result (λ files. Just (fetch_of files name.now)) }
     ensures small { IfOk result (λ bytes. length bytes.items ≤ 67108864) }
 {
@@ -49,6 +52,7 @@ fn fetched<S: Shelf>(alloc: Global, shelf: &mut S, name: &[u8]) -> Result<Vec<u8
 fn catalog_input<S: Shelf>(alloc: Global, shelf: &mut S, name: &[u8]) -> Result<Catalog, Status>
     ensures files { S.files shelf.new ≡ S.files shelf.old }
     ensures count { S.faults shelf.old ≤ S.faults shelf.new }
+    ensures quiet { result ≢ Err status.ShelfFault → Stands (S.faults shelf.old) (S.faults shelf.new) }
     ensures told { Told (S.files shelf.old) (S.faults shelf.old) (S.faults shelf.new) (λ c. c) result (λ files. IsCatalog files name.now) }
     ensures limits { IfOk result HasLimits }
     ensures indexes { IfOk result (All HasIndexColumn) }
@@ -65,6 +69,7 @@ fn script_input<S: Shelf>(
 ) -> Result<ReadScript, Status>
     ensures files { S.files shelf.new ≡ S.files shelf.old }
     ensures count { S.faults shelf.old ≤ S.faults shelf.new }
+    ensures quiet { result ≢ Err status.ShelfFault → Stands (S.faults shelf.old) (S.faults shelf.new) }
     ensures told { Told (S.files shelf.old) (S.faults shelf.old) (S.faults shelf.new) (checked_of catalog.now) result (λ files. IsScript files catalog.now name.now) }
     ensures serve { IfOk result (λ read. MayServe catalog.now (program_of read.script).sentences read.queries) }
 {
@@ -80,6 +85,7 @@ pub(crate) fn read_checked<S: Shelf>(
 ) -> Result<Checked, Status>
     ensures files { S.files shelf.new ≡ S.files shelf.old }
     ensures count { S.faults shelf.old ≤ S.faults shelf.new }
+    ensures quiet { result ≢ Err status.ShelfFault → Stands (S.faults shelf.old) (S.faults shelf.new) }
     ensures told { Told (S.files shelf.old) (S.faults shelf.old) (S.faults shelf.new) read_of result (λ files. IsChecked files (request_of operands.now)) }
     ensures limits { IfOk result (λ checked. HasLimits checked.catalog) }
     ensures indexes { IfOk result (λ checked. All HasIndexColumn checked.catalog) }
@@ -95,6 +101,7 @@ fn table_input<S: Shelf>(alloc: Global, shelf: &mut S, relation: &Relation) -> R
     requires { length relation.now.columns ≤ 32 }
     ensures files { S.files shelf.new ≡ S.files shelf.old }
     ensures count { S.faults shelf.old ≤ S.faults shelf.new }
+    ensures quiet { result ≢ Err status.ShelfFault → Stands (S.faults shelf.old) (S.faults shelf.new) }
     ensures told { Told (S.files shelf.old) (S.faults shelf.old) (S.faults shelf.new) (λ r. r) result (λ files. Just (table_of files relation.now)) }
     ensures rows { IfOk result (All (IsRowOf relation.now.columns)) }
     ensures short { IfOk result (AreShort relation.now.columns) }
@@ -113,6 +120,7 @@ fn table<S: Shelf>(alloc: Global, shelf: &mut S, relation: &Relation) -> Result<
     requires index { HasIndexColumn relation.now }
     ensures files { S.files shelf.new ≡ S.files shelf.old }
     ensures count { S.faults shelf.old ≤ S.faults shelf.new }
+    ensures quiet { result ≢ Err status.ShelfFault → Stands (S.faults shelf.old) (S.faults shelf.new) }
     ensures told { Told (S.files shelf.old) (S.faults shelf.old) (S.faults shelf.new) (λ t. t.rows) result (λ files. Just (table_of files relation.now)) }
     ensures table { IfOk result (IsTableOf relation.now) }
 {
@@ -133,6 +141,7 @@ pub(crate) fn read_tables<S: Shelf>(
     requires indexes { All HasIndexColumn catalog.now }
     ensures files { S.files shelf.new ≡ S.files shelf.old }
     ensures count { S.faults shelf.old ≤ S.faults shelf.new }
+    ensures quiet { result ≢ Err status.ShelfFault → Stands (S.faults shelf.old) (S.faults shelf.new) }
     ensures told { Told (S.files shelf.old) (S.faults shelf.old) (S.faults shelf.new) (λ db. db) result (λ files. Just (tables_of files catalog.now)) }
     ensures stored { IfOk result (MayStore catalog.now) }
 {

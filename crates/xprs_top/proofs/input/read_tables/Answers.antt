@@ -13,6 +13,7 @@ pub loop-relation-preserved : goal.loop-relation-preserved
 loop-relation-preserved g c = record {
   files = c.table.ensures.files ∙ c.loop-relation.invariant.files;
   count = le_trans c.loop-relation.invariant.count c.table.ensures.count;
+  quiet = c.in-Ok.ensures.quiet (λ e. absurd cc) ∙ c.loop-relation.invariant.quiet;
   told = more_told_at (g.S.Shelf.files c.args.shelf.now) (g.S.Shelf.files c.loop-relation.shelf) c.loop-relation.invariant.files c.items-relation-items.result.now c.loop-relation.relation-index c.relation-item.result
       c.loop-relation-test.true c.relation-item.is c.loop-relation.tables.items c.push.new.self.items c.in-Ok.table c.loop-relation.invariant.told c.in-Ok.ensures.told c.in-Ok.ensures.table.columns c.in_ok-push-in-Ok.ensures.items;
   loaded = one_loaded c.items-relation-items.result.now c.loop-relation.relation-index c.loop-relation.tables.items c.push.new.self.items c.relation-item.result c.in-Ok.table c.loop-relation.invariant.loaded
