@@ -8,18 +8,18 @@ use Rattle.std.specs.declared.cmp.Ordering.TheVariants.{Less, Equal, Greater}
 use Rattle.std.specs.Ordering.{is_lt, is_gt, ordering_index, ordering_reverse, ordering_then}
 use Rattle.std.specs.Cmp.Lexicographic.{slice_cmp}
 use Rattle.std.proofs.lemmas.Cmp.{lists_total}
-use Rattle.std.proofs.lemmas.List.{get_or_default}
+use Rattle.std.proofs.lemmas.List.{append-nil, get_or_default}
 use Rattle.std.proofs.lemmas.List.Sorted.{searchable_from_sorted}
-use Rattle.lists.specs.Arranged.{Ascends}
-use Rattle.lists.proofs.Arranging.{sort_ascends}
+use Rattle.lists.specs.Arranged.{Ascends, sort_by}
+use Rattle.lists.proofs.Arranging.{bag_fixes, occurrences-sort, sort_ascends}
 use Rattle.rows.specs.declared.value.Value.{Value}
 use Rattle.rows.specs.declared.order.SortKey.{SortKey}
 use Rattle.rows.specs.declared.plain.ColumnRef.{ColumnRef}
 use Rattle.rows.specs.declared.plain.KeyPair.{KeyPair}
 use Rattle.rows.specs.declared.plain.LayoutPart.{LayoutPart}
-use Rattle.rows.specs.Layouts.{column_place, value_at}
-use Rattle.rows.specs.Values.{column_of, keys_cmp, row_cmp, value_cmp}
-use Rattle.rows.proofs.Orders.{row_total, value_total}
+use Rattle.rows.specs.Layouts.{IsRowIn, column_place, value_at}
+use Rattle.rows.specs.Values.{arranged, column_of, keys_cmp, row_cmp, value_cmp}
+use Rattle.rows.proofs.Orders.{row_exact, row_total, value_total}
 use Rattle.hash_join.specs.Table.{IsColumn, row_key, rows_of}
 use Rattle.plan_tree.specs.WellFormed.{sort_key}
 use Rattle.merge_join.specs.Sides.{ArePassed, AreBelow, IsSide, Rises, key_order, left_columns, right_columns}
@@ -98,3 +98,31 @@ module _ (left right : List LayoutPart) (keys : List KeyPair) (left_lists right_
       ((lists_total value_total).antisymm (row_key right (right_columns keys) b) (row_key left (left_columns keys) (get_or lefts number d)))
       ((lists_total value_total).antisymm (row_key right (right_columns keys) b) (row_key left (left_columns keys) (get_or lefts k d)))
       rise (sym (ap (λ a. is_lt (key_order left right keys a b)) same) ∙ below i f zero' le)
+
+-- What is arranged is arranged already.
+pub arranged_again : (keys : List SortKey) (rows : List (List Value))
+    → arranged false keys rows ≡ arranged false keys (arranged false keys rows)
+arranged_again keys rows =
+    bag_fixes (row_total keys) (row_exact keys) (sort_by (row_cmp keys) rows)
+    (sort_by (row_cmp keys) (sort_by (row_cmp keys) rows))
+    (sort_ascends (row_total keys) rows)
+    (sort_ascends (row_total keys) (sort_by (row_cmp keys) rows))
+    (λ row. sym (occurrences-sort (row_total keys) row (sort_by (row_cmp keys) rows)))
+
+-- Arranged rows of a layout are a side of a merge.
+pub arranged_side : (layout : List LayoutPart) (columns : List ColumnRef) (rows : List (List Value))
+    (lists : List (List (List Value)))
+    → lists ≡ arranged false (map (sort_key layout) columns) rows ∷ []
+    → AllByRecursion (IsColumn layout) columns
+    → AllByRecursion (IsRowIn layout) (rows_of lists)
+    → IsSide layout columns lists
+arranged_side layout columns rows lists is there fit =
+    let sorts = map (sort_key layout) columns in
+    let all : rows_of lists ≡ arranged false sorts rows =
+    ap rows_of is ∙ append-nil (arranged false sorts rows) in
+    record {
+      one = ap length is;
+      fit = fit;
+      columns_there = there;
+      in_order = all ∙ arranged_again sorts rows ∙ ap (arranged false sorts) (sym all);
+    }

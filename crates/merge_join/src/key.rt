@@ -11,7 +11,7 @@ use rows::{ColumnRef, KeyPair, Layout, LayoutPart, Row, Value, compare};
 use std::cmp::Ordering;
 
 // The place of a variable's column in a row of the layout.
-fn place_of(layout: &[LayoutPart], var: u32, col: usize) -> Option<usize>
+pub(crate) fn place_of(layout: &[LayoutPart], var: u32, col: usize) -> Option<usize>
     requires { length (all_columns layout.now) < 2 ^ 64 }
     ensures place { result ≡ column_place layout.now var col }
     ensures within { IfSome result (λ place. place < length (all_columns layout.now)) }
