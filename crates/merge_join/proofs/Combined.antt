@@ -7,8 +7,10 @@ use Rattle.rows.specs.declared.plain.LayoutColumn.{LayoutColumn}
 use Rattle.plan_tree.specs.Assignments.{Assignment}
 use Rattle.plan_tree.specs.Combining.{values_of}
 
-pub values_more : (e : Assignment) (var n : ℕ) (cs : List LayoutColumn) (old new whole : List Value) (v : Value)
-    → n < length cs → v ≡ e var n → new ≡ old ++ v ∷ [] → old ++ values_of e var n (drop n cs) ≡ whole
+pub values_more : (e : Assignment) (var n : ℕ) (cs : List LayoutColumn) (old new whole : List Value)
+    (v : Value)
+    → n < length cs → v ≡ e var n → new ≡ old ++ v ∷ [] → old ++ values_of e var n (drop n cs)
+    ≡ whole
     → new ++ values_of e var (n + 1) (drop (n + 1) cs) ≡ whole
 values_more e var n cs old new whole v lt is put told =
     let k : values_of e var n (drop n cs) ≡ e var n ∷ values_of e var (n + 1) (drop (n + 1) cs) =

@@ -1,17 +1,19 @@
 -- The two sides of a merge, and the order of their keys.
-use Rattle.std.specs.Prelude.{◌≡◌, ◌≤◌, ◌<◌, ℕ, true, false, List, map, length, slice_index_or}
+use Rattle.std.specs.Prelude.{◌≡◌, ◌≤◌, ◌<◌, ℕ, true, false, List, map, length, slice_index_or, filter}
 use Rattle.std.specs.List.{AllByRecursion, AllWithin}
 use Rattle.std.specs.List.Sorted.{IsNonDecreasingBy, IsPartitionPoint}
-use Rattle.std.specs.Ordering.{is_lt, ordering_index}
+use Rattle.std.specs.Ordering.{is_eq, is_lt, ordering_index}
 use Rattle.std.specs.declared.cmp.Ordering.{Ordering}
 use Rattle.std.specs.Cmp.Lexicographic.{slice_cmp}
 use Rattle.rows.specs.declared.value.Value.{Value}
 use Rattle.rows.specs.declared.plain.ColumnRef.{ColumnRef}
 use Rattle.rows.specs.declared.plain.KeyPair.{KeyPair}
 use Rattle.rows.specs.declared.plain.LayoutPart.{LayoutPart}
+use Rattle.rows.specs.Keys.{keys_match}
 use Rattle.rows.specs.Layouts.{IsRowIn}
 use Rattle.rows.specs.Values.{arranged, value_cmp}
 use Rattle.hash_join.specs.Table.{IsColumn, row_key, rows_of}
+use Rattle.plan_tree.specs.Combining.{combined}
 use Rattle.plan_tree.specs.WellFormed.{sort_key}
 
 -- the columns of the keys on each side
@@ -61,3 +63,18 @@ abbrev pub ArePassed : List LayoutPart → List LayoutPart → List KeyPair → 
 ArePassed left right keys lefts rows from count =
     (k : ℕ) (a : List Value) → from ≤ k → k < length lefts
     → AreBelow left right keys (slice_index_or lefts k a) rows count
+
+-- the right rows whose key is that of a left row, null or not
+abbrev pub of_key : List LayoutPart → List LayoutPart → List KeyPair → List Value
+    → List (List Value) → List (List Value)
+of_key left right keys a rows = filter (λ b. is_eq (key_order left right keys a b)) rows
+
+-- the right rows that match a left row
+abbrev pub matches_of : List LayoutPart → List LayoutPart → List KeyPair → List Value
+    → List (List Value) → List (List Value)
+matches_of left right keys a rows = filter (λ b. keys_match left right keys a b) rows
+
+-- a left row with each of these right rows
+abbrev pub with_each : List LayoutPart → List LayoutPart → List LayoutPart → List Value
+    → List (List Value) → List (List Value)
+with_each layout left right a rows = map (λ b. combined layout left right a b) rows

@@ -30,7 +30,8 @@ fn value_over(
 ) -> Result<Value, AllocError>
     requires first { IsRowIn first.now a.now }
     requires second { IsRowIn second.now b.now }
-    ensures { IfOk result (λ value. value ≡ over first.now a.now (column_in second.now b.now) var col) }
+    ensures { IfOk result (λ value. value ≡ over first.now a.now (column_in second.now b.now) var
+        col) }
 {
     let found = if has_part(first.items(), var) {
         value_in(a, first, var, col)
@@ -55,7 +56,9 @@ fn put_part(
 ) -> Result<(), AllocError>
     requires first { IsRowIn first.now a.now }
     requires second { IsRowIn second.now b.now }
-    ensures { OnOk result (values.new.items ≡ values.old.items ++ values_of (over first.now a.now (column_in second.now b.now)) part.now.var 0 part.now.columns) }
+    ensures { OnOk result (values.new.items ≡ values.old.items
+        ++ values_of (over first.now a.now (column_in second.now b.now)) part.now.var 0
+        part.now.columns) }
 {
     for col in 0..part.columns.len() {
         values.push(value_over(alloc, first, second, a, b, part.var, col)?)?;

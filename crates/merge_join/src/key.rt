@@ -25,10 +25,12 @@ pub(crate) fn place_of(layout: &[LayoutPart], var: u32, col: usize) -> Option<us
     }
 }
 
-// The value of a variable's column in a row of the layout. There is none where there is no such column.
+// The value of a variable's column in a row of the layout. There is none where there is no such
+// column.
 pub(crate) fn value_in<'a>(row: &'a Row, layout: &Layout, var: u32, col: usize) -> Option<&'a Value>
     requires { IsRowIn layout.now row.now }
-    ensures { MatchOption result (column_in layout.now row.now var col ≡ Null) (λ value. value.now ≡ column_in layout.now row.now var col) }
+    ensures { MatchOption result (column_in layout.now row.now var col ≡ Null)
+        (λ value. value.now ≡ column_in layout.now row.now var col) }
 {
     let _width = row.len();
     match place_of(layout.items(), var, col) {
@@ -47,7 +49,8 @@ fn column_order(
 ) -> Ordering
     requires left { IsRowIn left_layout.now a.now }
     requires right { IsRowIn right_layout.now b.now }
-    ensures { result ≡ value_cmp (column_in right_layout.now b.now key.probe.var key.probe.col) (column_in left_layout.now a.now key.build.var key.build.col) }
+    ensures { result ≡ value_cmp (column_in right_layout.now b.now key.probe.var key.probe.col)
+        (column_in left_layout.now a.now key.build.var key.build.col) }
 {
     let own = value_in(b, right_layout, key.probe.var, key.probe.col as usize);
     let other = value_in(a, left_layout, key.build.var, key.build.col as usize);

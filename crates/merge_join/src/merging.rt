@@ -8,7 +8,7 @@ ghost use Rattle.rows.specs.Values.{is_null};
 ghost use Rattle.hash_join.specs.Table.{row_key, rows_of};
 ghost use Rattle.plan_tree.specs.Combining.{combined, merged};
 ghost use Rattle.plan_tree.specs.Fragments.{matched, merge_slices, slice_of};
-ghost use Rattle.merge_join.specs.Sides.{ArePassed, IsSide, IsStart, Rises, key_order, left_columns, right_columns};
+ghost use Rattle.merge_join.specs.Sides.{ArePassed, IsSide, IsStart, Rises, left_columns, matches_of, of_key, right_columns, with_each};
 
 use crate::combining::combined_row;
 use crate::key::{holds_null, keys_order};
@@ -37,7 +37,9 @@ fn put_run(
     requires rises { Rises left_layout.now right_layout.now keys.now a.now (rows_of right.now.lists) }
     requires within { start ≤ length (rows_of right.now.lists) }
     requires start { IsStart left_layout.now right_layout.now keys.now a.now (rows_of right.now.lists) start }
-    ensures { OnOk result (out.new.items ≡ out.old.items ++ map (λ b. combined layout.now left_layout.now right_layout.now a.now b) (filter (λ b. is_eq (key_order left_layout.now right_layout.now keys.now a.now b)) (rows_of right.now.lists))) }
+    ensures { OnOk result (out.new.items ≡ out.old.items ++ with_each layout.now left_layout.now
+        right_layout.now a.now
+        (of_key left_layout.now right_layout.now keys.now a.now (rows_of right.now.lists))) }
 {
     let count = right.rows();
     for number in start..count {
@@ -68,7 +70,9 @@ fn put_matches(
     requires rises { Rises left_layout.now right_layout.now keys.now a.now (rows_of right.now.lists) }
     requires within { start ≤ length (rows_of right.now.lists) }
     requires start { IsStart left_layout.now right_layout.now keys.now a.now (rows_of right.now.lists) start }
-    ensures { OnOk result (out.new.items ≡ out.old.items ++ map (λ b. combined layout.now left_layout.now right_layout.now a.now b) (filter (λ b. keys_match left_layout.now right_layout.now keys.now a.now b) (rows_of right.now.lists))) }
+    ensures { OnOk result (out.new.items ≡ out.old.items ++ with_each layout.now left_layout.now
+        right_layout.now a.now
+        (matches_of left_layout.now right_layout.now keys.now a.now (rows_of right.now.lists))) }
 {
     if holds_null(a, left_layout, keys.items()) {
         return Ok(());
@@ -103,10 +107,15 @@ fn put_row(
     requires right { IsSide right_layout.now (right_columns keys.now) right.now.lists }
     requires number { number < length (rows_of left.now.lists) }
     requires within { start ≤ length (rows_of right.now.lists) }
-    requires passed { ArePassed left_layout.now right_layout.now keys.now (rows_of left.now.lists) (rows_of right.now.lists) number start }
+    requires passed { ArePassed left_layout.now right_layout.now keys.now (rows_of left.now.lists)
+        (rows_of right.now.lists) number start }
     ensures within { IfOk result (λ next. next ≤ length (rows_of right.now.lists)) }
-    ensures passed { IfOk result (ArePassed left_layout.now right_layout.now keys.now (rows_of left.now.lists) (rows_of right.now.lists) number) }
-    ensures added { OnOk result (out.new.items ≡ out.old.items ++ map (λ b. combined layout.now left_layout.now right_layout.now (slice_index_or (rows_of left.now.lists) number []) b) (filter (λ b. keys_match left_layout.now right_layout.now keys.now (slice_index_or (rows_of left.now.lists) number []) b) (rows_of right.now.lists))) }
+    ensures passed { IfOk result (ArePassed left_layout.now right_layout.now keys.now (rows_of left.now.lists)
+        (rows_of right.now.lists) number) }
+    ensures added { OnOk result (out.new.items ≡ out.old.items ++ with_each layout.now left_layout.now
+        right_layout.now (slice_index_or (rows_of left.now.lists) number [])
+        (matches_of left_layout.now right_layout.now keys.now
+        (slice_index_or (rows_of left.now.lists) number []) (rows_of right.now.lists))) }
 {
     let a = left.nth(number);
     let next = first_from(right, start, a, left_layout, right_layout, keys);
@@ -124,7 +133,8 @@ fn put_row(
     Ok(next)
 }
 
-// The number of the first right row that isn't below the left row of a number, and 0 where there is no such left row.
+// The number of the first right row that isn't below the left row of a number, and 0 where there is
+// no such left row.
 fn first_start(
     left: &Built,
     number: u64,
@@ -136,7 +146,8 @@ fn first_start(
     requires left { IsSide left_layout.now (left_columns keys.now) left.now.lists }
     requires right { IsSide right_layout.now (right_columns keys.now) right.now.lists }
     ensures within { result ≤ length (rows_of right.now.lists) }
-    ensures passed { ArePassed left_layout.now right_layout.now keys.now (rows_of left.now.lists) (rows_of right.now.lists) number result }
+    ensures passed { ArePassed left_layout.now right_layout.now keys.now (rows_of left.now.lists)
+        (rows_of right.now.lists) number result }
 {
     if number >= left.rows() {
         return 0;
@@ -161,7 +172,9 @@ fn put_rows(
     requires left { IsSide left_layout.now (left_columns keys.now) left.now.lists }
     requires right { IsSide right_layout.now (right_columns keys.now) right.now.lists }
     requires within { upto ≤ length (rows_of left.now.lists) }
-    ensures { OnOk result (out.new.items ≡ out.old.items ++ matched left_layout.now right_layout.now keys.now (take (upto - from) (drop from (rows_of left.now.lists))) (rows_of right.now.lists)) }
+    ensures { OnOk result (out.new.items ≡ out.old.items ++ matched left_layout.now right_layout.now
+        keys.now (take (upto - from) (drop from (rows_of left.now.lists)))
+        (rows_of right.now.lists)) }
 {
     let mut start = first_start(left, from, right, left_layout, right_layout, keys);
     for number in from..upto {
@@ -181,8 +194,10 @@ fn put_rows(
     Ok(())
 }
 
-/// Each left row of a slice with each right row that has its keys, none of them null, in the order of the left rows and then
-/// of the right ones. The left side is cut into 64 slices. Both sides are in the order of their key columns. An error is want
+/// Each left row of a slice with each right row that has its keys, none of them null, in the order
+/// of the left rows and then
+/// of the right ones. The left side is cut into 64 slices. Both sides are in the order of their key
+/// columns. An error is want
 /// of memory.
 pub fn merge_slice(
     alloc: Global,
@@ -196,7 +211,8 @@ pub fn merge_slice(
     requires left { IsSide left_layout.now (left_columns keys.now) left.now.lists }
     requires right { IsSide right_layout.now (right_columns keys.now) right.now.lists }
     requires slice { slice < merge_slices }
-    ensures { IfOk result (λ rows. rows ≡ matched left_layout.now right_layout.now keys.now (slice_of slice (rows_of left.now.lists)) (rows_of right.now.lists)) }
+    ensures { IfOk result (λ rows. rows ≡ matched left_layout.now right_layout.now keys.now
+        (slice_of slice (rows_of left.now.lists)) (rows_of right.now.lists)) }
 {
     let layout = merged_layout(alloc, left_layout, right_layout)?;
     let count = left.rows();

@@ -23,7 +23,8 @@ fn order_at(
     requires fit { AllByRecursion (IsRowIn right_layout.now) (rows_of right.now.lists) }
     requires left { IsRowIn left_layout.now a.now }
     requires within { number < length (rows_of right.now.lists) }
-    ensures { result ≡ key_order left_layout.now right_layout.now keys.now a.now (slice_index_or (rows_of right.now.lists) number []) }
+    ensures { result ≡ key_order left_layout.now right_layout.now keys.now a.now
+        (slice_index_or (rows_of right.now.lists) number []) }
 {
     keys_order(
         a,

@@ -5,7 +5,8 @@ use Rattle.merge_join.proofs.layouts.put_part.Given as goal
 abbrev pub invariant-loop-place : goal.invariant-loop-place
 invariant-loop-place l = record {
   within : l.place ≤ length l.parts.items;
-  so_far : take l.place l.parts.items ++ insert_part l.part (drop l.place l.parts.items) ≡ insert_part l.part l.parts.items;
+  so_far : take l.place l.parts.items ++ insert_part l.part (drop l.place l.parts.items)
+      ≡ insert_part l.part l.parts.items;
 }
 
 abbrev pub decreases-loop-place : goal.decreases-loop-place

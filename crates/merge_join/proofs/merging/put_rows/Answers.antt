@@ -16,8 +16,11 @@ loop-number-preserved c =
     record {
       within = c.in_ok-start.ensures.within;
       passed = λ k a low high. c.in_ok-start.ensures.passed k a (omega (arith, low)) high;
-      made = row_more left right keys lefts rows number c.args.upto c.loop-number.out.items c.put_row.new.out.items _ c.loop-number-test.true c.requires.within
-          (subst (λ layout. c.put_row.new.out.items ≡ c.loop-number.out.items ++ map (λ b. combined layout left right (get_or lefts number []) b) (filter (λ b. keys_match left right keys (get_or lefts number []) b) rows))
+      made = row_more left right keys lefts rows number c.args.upto c.loop-number.out.items
+          c.put_row.new.out.items _ c.loop-number-test.true c.requires.within
+          (subst (λ layout. c.put_row.new.out.items ≡ c.loop-number.out.items
+          ++ map (λ b. combined layout left right (get_or lefts number []) b)
+          (filter (λ b. keys_match left right keys (get_or lefts number []) b) rows))
           c.requires.layout c.in_ok-start.ensures.added)
           c.loop-number.invariant.made;
     }

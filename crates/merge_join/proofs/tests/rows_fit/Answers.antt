@@ -19,7 +19,8 @@ pub returns : goal.returns
 returns c e =
     let rows = rows_of c.args.built.now.lists in
     let past : length rows ≤ c.loop-number.number =
-    (let f = c.rows-number-end.ensures in let t = c.loop-number-test.false in omega (arith, f, t)) in
+    (let f = c.rows-number-end.ensures in let t = c.loop-number-test.false in omega (arith, f, t))
+    in
     let none : drop c.loop-number.number rows ≡ [] = drop_of_length-le rows past in
     subst (λ columns. AllByRecursion (FitsColumns columns) rows) (sym c.requires.columns)
     (c.loop-number.invariant
