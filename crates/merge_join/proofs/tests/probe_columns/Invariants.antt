@@ -1,0 +1,6 @@
+use Rattle.std.proofs.Common.{◌≡◌, take}
+use Rattle.merge_join.specs.Sides.{right_columns}
+use Rattle.merge_join.proofs.tests.probe_columns.Given as goal
+
+abbrev pub invariant-loop-key : goal.invariant-loop-key
+invariant-loop-key l = l.columns.items ≡ right_columns (take l.key-index l.keys)
