@@ -1,3 +1,4 @@
+pub mod Matched
 pub mod Places
 pub mod Runs
 pub mod Stable

@@ -2,11 +2,11 @@
 ghost use Rattle.std.specs.Prelude.{◌≡◌, ◌++◌, map, filter, IfOk, OnOk, length, slice_index_or};
 ghost use Rattle.std.specs.List.{range_with_len};
 ghost use Rattle.std.specs.List.Sorted.{IsSortedBy};
-ghost use Rattle.hash_join.specs.Table.{Table, place_at, places, has_key};
+ghost use Rattle.hash_join.specs.Table.{Table, place_at, places, has_key, key_of};
 ghost use Rattle.hash_join.specs.Found.{IsIndex, is_below};
 
 use crate::RowPlace;
-use crate::key::{key_order, keys_order, row_at};
+use crate::key::{key_order, keys_order, row_at, sides_order};
 use rows::{Rows, Value};
 use std::alloc::{AllocError, Global};
 use std::sync::Arc;
@@ -59,4 +59,31 @@ pub(crate) fn places_with<'a>(
     let rest = &index[start..];
     let count = rest.partition_point(|at| key_order(row_at(parts, *at), columns, key).is_le());
     &rest[..count]
+}
+
+// The places of the rows with another row's values in columns, out of all places in the order of their keys.
+pub(crate) fn places_for<'a>(
+    parts: &[Arc<Rows>],
+    columns: &[usize],
+    index: &'a [RowPlace],
+    row: &[Value],
+    others: &[usize],
+) -> &'a [RowPlace]
+    requires { let table : Table = record { lists = map (λ x. x.value) parts.now; columns = columns.now } in IsSortedBy (is_below table) index.now }
+    ensures { let table : Table = record { lists = map (λ x. x.value) parts.now; columns = columns.now } in result.now ≡ filter (has_key table (key_of others.now row.now)) index.now }
+{
+    let start = index.partition_point(|at| sides_order(
+        row_at(parts, *at),
+        columns,
+        row,
+        others,
+    ).is_lt());
+    let rest = &index[start..];
+    let size = rest.partition_point(|at| sides_order(
+        row_at(parts, *at),
+        columns,
+        row,
+        others,
+    ).is_le());
+    &rest[..size]
 }

@@ -1,11 +1,11 @@
 //! Rows that are found by their keys.
 ghost use Rattle.std.specs.Prelude.{◌≡◌, ◌<◌, Some, length, slice_get};
-ghost use Rattle.hash_join.specs.Table.{IsPlace, matching, row_at, rows_of};
+ghost use Rattle.hash_join.specs.Table.{IsPlace, key_of, matching, row_at, rows_of};
 ghost use Rattle.std.specs.List.{All};
 
 use crate::Parts;
-use crate::index::places_with;
-use crate::key::holds_null;
+use crate::index::{places_for, places_with};
+use crate::key::{holds_null, null_within};
 use lists::Sequence;
 use rows::{Row, Value};
 use std::marker::Model;
@@ -56,6 +56,23 @@ impl Built {
         places_with(self.parts.items(), self.columns.as_slice(), index, key)
     }
 
+    // The places of the rows whose key has a row's values in columns, in order.
+    fn found_in(&self, row: &[Value], columns: &[usize]) -> &[RowPlace]
+        ensures { result.now ≡ matching self.now (key_of columns.now row.now) }
+    {
+        let index = self.index.as_slice();
+        if null_within(row, columns) {
+            return &index[..0];
+        }
+        places_for(
+            self.parts.items(),
+            self.columns.as_slice(),
+            index,
+            row,
+            columns,
+        )
+    }
+
     /// The places of the rows whose key is this one, in order of position and then of place. There is none where the key
     /// holds null. Without key columns every row has the empty key.
     pub fn matches(&self, key: &Row) -> &[RowPlace]
@@ -63,6 +80,15 @@ impl Built {
         ensures places { All (IsPlace self.now.lists) result.now }
     {
         self.found(key.items())
+    }
+
+    /// The places of the rows whose key has the values of a row in these columns, as `matches` gives them for that key. A
+    /// row has null past its last column. It takes no memory.
+    pub fn matches_in(&self, row: &[Value], columns: &[usize]) -> &[RowPlace]
+        ensures found { result.now ≡ matching self.now (key_of columns.now row.now) }
+        ensures places { All (IsPlace self.now.lists) result.now }
+    {
+        self.found_in(row, columns)
     }
 
     /// The row at a place of this value.
