@@ -1,3 +1,4 @@
+pub mod Spread
 pub mod Matched
 pub mod Places
 pub mod Runs

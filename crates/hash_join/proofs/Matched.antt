@@ -1,5 +1,5 @@
 -- The rows at the places that match a key are the rows with its keys.
-use Rattle.std.proofs.Common.{◌≡◌, ℕ, zero, suc, ◌+◌, ◌<◌, Bool, true, false, cond, not, ◌&&◌, ◌||◌, List, [], ◌∷◌, ◌++◌, length, map, Option, Some, None, refl, sym, ap, ◌∙◌, subst, arith, get_or, slice_get}
+use Rattle.std.proofs.Common.{◌≡◌, ℕ, suc, ◌+◌, Bool, true, false, cond, not, ◌&&◌, ◌||◌, List, [], ◌∷◌, ◌++◌, length, map, Some, refl, sym, ap, ◌∙◌, subst, arith, get_or, slice_get}
 use Rattle.std.specs.List.{flat_map, filter, list_any, range_with_len}
 use Rattle.std.specs.Ordering.{is_eq, ordering_then}
 use Rattle.std.specs.declared.cmp.Ordering.{Ordering}
@@ -13,8 +13,7 @@ use Rattle.rows.specs.declared.plain.KeyPair.{KeyPair}
 use Rattle.rows.specs.declared.plain.LayoutPart.{LayoutPart}
 use Rattle.rows.specs.Layouts.{column_in}
 use Rattle.rows.specs.Keys.{values_match, keys_match}
-use Rattle.hash_join.specs.declared.table.RowPlace.{RowPlace}
-use Rattle.hash_join.specs.Table.{HasKeys, Table, has_key, key_of, matching, place_at, places, places_in, row_at, row_key, rows_of}
+use Rattle.hash_join.specs.Table.{HasKeys, Table, key_of, matching, place_at, places, places_in, row_at, row_key, rows_of}
 
 -- the key by which a row is looked up
 abbrev probe_key : List LayoutPart → List KeyPair → List Value → List Value

@@ -1,6 +1,8 @@
 //! Tables of rows that are looked up by their keys, for joins, and answers in their order.
 #![tactic(auto)]
 
+mod buckets;
+mod hash;
 mod index;
 mod key;
 mod laws;
