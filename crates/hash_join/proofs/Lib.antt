@@ -1,3 +1,5 @@
+pub mod Spread
+pub mod Matched
 pub mod Places
 pub mod Runs
 pub mod Stable

@@ -14,7 +14,6 @@ use Rattle.std.specs.Prelude.{Option, Some, None, IsSome}
 use Rattle.std.specs.Option.{option_to_list}
 use Rattle.hash_join.specs.declared.table.RowPlace.{RowPlace}
 use Rattle.hash_join.specs.Table.{Table, HasKeys, IsColumn, IsPlace, key_of, places_of, place_at, places_in, places, has_key, matching}
-use Rattle.hash_join.specs.Found.{IsIndex}
 
 one_more : (a n : ℕ) → range_with_len a (suc n) ≡ range_with_len a n ++ (a + n) ∷ []
 one_more a zero = ap (λ k. k ∷ []) (omega arith)
@@ -88,9 +87,9 @@ none_pass (x ∷ xs) = none_pass xs
 pub no_match : (table : Table) (key : List Value) → list_any is_null key ≡ true → matching table key ≡ []
 no_match table key null = ap (λ b. filter (λ at. not b && has_key table key at) (places table.lists)) null ∙ none_pass (places table.lists)
 
--- what is found in the index matches
-pub found_match : (table : Table) (key : List Value) (index : List RowPlace) → list_any is_null key ≡ false → IsIndex table index → filter (has_key table key) index ≡ matching table key
-found_match table key index null is = is.found key ∙ sym (ap (λ b. filter (λ at. not b && has_key table key at) (places table.lists)) null)
+-- what has a key that holds no null matches
+pub found_match : (table : Table) (key : List Value) → list_any is_null key ≡ false → filter (has_key table key) (places table.lists) ≡ matching table key
+found_match table key null = sym (ap (λ b. filter (λ at. not b && has_key table key at) (places table.lists)) null)
 
 one_place : (row : List Value) (place : Option ℕ) → IsSome place → key_of (option_to_list place) row ≡ value_at row place ∷ []
 one_place row None some = cc

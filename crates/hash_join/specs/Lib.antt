@@ -1,2 +1,4 @@
 pub mod Table
+pub mod Hash
 pub mod Found
+pub mod Making

@@ -2,11 +2,12 @@
 ghost use Rattle.std.specs.Prelude.{◌≡◌, ◌++◌, map, filter, IfOk, OnOk, length, slice_index_or};
 ghost use Rattle.std.specs.List.{range_with_len};
 ghost use Rattle.std.specs.List.Sorted.{IsSortedBy};
-ghost use Rattle.hash_join.specs.Table.{Table, place_at, places, has_key};
-ghost use Rattle.hash_join.specs.Found.{IsIndex, is_below};
+ghost use Rattle.hash_join.specs.Table.{Table, place_at, places, has_key, key_of};
+ghost use Rattle.hash_join.specs.Found.{is_below};
+ghost use Rattle.hash_join.specs.Making.{IsOrdered};
 
 use crate::RowPlace;
-use crate::key::{key_order, keys_order, row_at};
+use crate::key::{key_order, keys_order, row_at, sides_order};
 use rows::{Rows, Value};
 use std::alloc::{AllocError, Global};
 use std::sync::Arc;
@@ -22,7 +23,7 @@ fn put_places(index: &mut Vec<RowPlace>, position: usize, count: usize) -> Resul
 }
 
 // The places of all rows.
-fn all_places(alloc: Global, parts: &[Arc<Rows>]) -> Result<Vec<RowPlace>, AllocError>
+pub(crate) fn all_places(alloc: Global, parts: &[Arc<Rows>]) -> Result<Vec<RowPlace>, AllocError>
     ensures { IfOk result (λ index. index.items ≡ places (map (λ x. x.value) parts.now)) }
 {
     let mut index = Vec::new(alloc);
@@ -32,21 +33,20 @@ fn all_places(alloc: Global, parts: &[Arc<Rows>]) -> Result<Vec<RowPlace>, Alloc
     Ok(index)
 }
 
-// The places of all rows in the order of their keys.
-pub(crate) fn index_of(
-    alloc: Global,
+// Puts places in the order of the keys of their rows, and leaves those of equal keys as they stand.
+pub(crate) fn order_places(
+    bucket: &mut Vec<RowPlace>,
     parts: &[Arc<Rows>],
     columns: &[usize],
-) -> Result<Vec<RowPlace>, AllocError>
-    ensures { IfOk result (λ index. IsIndex (record { lists = map (λ x. x.value) parts.now; columns = columns.now }) index.items) }
+) -> Result<(), AllocError>
+    ensures { OnOk result (IsOrdered (record { lists = map (λ x. x.value) parts.now; columns = columns.now }) bucket.old.items bucket.new.items) }
 {
-    let mut index = all_places(alloc, parts)?;
-    index.sort_by(|a, b| keys_order(row_at(parts, *a), row_at(parts, *b), columns))?;
-    Ok(index)
+    bucket.sort_by(|a, b| keys_order(row_at(parts, *a), row_at(parts, *b), columns))?;
+    Ok(())
 }
 
-// The places of the rows with a key, out of all places in the order of their keys.
-pub(crate) fn places_with<'a>(
+// The places of the rows with a key, out of places in the order of their keys.
+pub(crate) fn run_with<'a>(
     parts: &[Arc<Rows>],
     columns: &[usize],
     index: &'a [RowPlace],
@@ -59,4 +59,31 @@ pub(crate) fn places_with<'a>(
     let rest = &index[start..];
     let count = rest.partition_point(|at| key_order(row_at(parts, *at), columns, key).is_le());
     &rest[..count]
+}
+
+// The places of the rows with another row's values in columns, out of places in the order of their keys.
+pub(crate) fn run_for<'a>(
+    parts: &[Arc<Rows>],
+    columns: &[usize],
+    index: &'a [RowPlace],
+    row: &[Value],
+    others: &[usize],
+) -> &'a [RowPlace]
+    requires { let table : Table = record { lists = map (λ x. x.value) parts.now; columns = columns.now } in IsSortedBy (is_below table) index.now }
+    ensures { let table : Table = record { lists = map (λ x. x.value) parts.now; columns = columns.now } in result.now ≡ filter (has_key table (key_of others.now row.now)) index.now }
+{
+    let start = index.partition_point(|at| sides_order(
+        row_at(parts, *at),
+        columns,
+        row,
+        others,
+    ).is_lt());
+    let rest = &index[start..];
+    let size = rest.partition_point(|at| sides_order(
+        row_at(parts, *at),
+        columns,
+        row,
+        others,
+    ).is_le());
+    &rest[..size]
 }

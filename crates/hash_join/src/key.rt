@@ -57,6 +57,19 @@ pub(crate) fn holds_null(key: &[Value]) -> bool
     key.iter().any(|value| matches!(value, Value::Null))
 }
 
+// Whether a row's values in columns hold null.
+pub(crate) fn null_within(row: &[Value], columns: &[usize]) -> bool
+    ensures { result ≡ list_any is_null (key_of columns.now row.now) }
+{
+    let Some((column, columns)) = columns.split_first() else {
+        return false;
+    };
+    match row.get(*column) {
+        None | Some(Value::Null) => true,
+        Some(_) => null_within(row, columns),
+    }
+}
+
 // The row at a place, and the empty row where there is none.
 pub(crate) fn row_at(parts: &[Arc<Rows>], at: RowPlace) -> &[Value]
     ensures { result.now ≡ row_at (map (λ x. x.value) parts.now) at }
@@ -80,13 +93,33 @@ fn value_order(row: &[Value], column: usize, value: &Value) -> Ordering
     }
 }
 
-// The order of two rows by one column.
-fn column_order(a: &[Value], b: &[Value], column: usize) -> Ordering
-    ensures { result ≡ value_cmp (column_of a.now column) (column_of b.now column) }
+// The order of two rows by a column of each.
+fn columns_order(a: &[Value], column: usize, b: &[Value], other: usize) -> Ordering
+    ensures { result ≡ value_cmp (column_of a.now column) (column_of b.now other) }
 {
-    match b.get(column) {
+    match b.get(other) {
         Some(value) => value_order(a, column, value),
         None => value_order(a, column, &Value::Null),
+    }
+}
+
+// The order of a row's values in columns and another row's values in columns of its own.
+pub(crate) fn sides_order(a: &[Value], columns: &[usize], b: &[Value], others: &[usize]) -> Ordering
+    ensures { result ≡ slice_cmp value_cmp (key_of columns.now a.now) (key_of others.now b.now) }
+{
+    let Some((column, columns)) = columns.split_first() else {
+        return if others.is_empty() {
+            Ordering::Equal
+        } else {
+            Ordering::Less
+        };
+    };
+    let Some((other, others)) = others.split_first() else {
+        return Ordering::Greater;
+    };
+    match columns_order(a, *column, b, *other) {
+        Ordering::Equal => sides_order(a, columns, b, others),
+        order => order,
     }
 }
 
@@ -95,7 +128,7 @@ pub(crate) fn keys_order(a: &[Value], b: &[Value], columns: &[usize]) -> Orderin
     ensures { result ≡ slice_cmp value_cmp (key_of columns.now a.now) (key_of columns.now b.now) }
 {
     for column in columns {
-        match column_order(a, b, *column) {
+        match columns_order(a, *column, b, *column) {
             Ordering::Equal => {}
             order => return order,
         }

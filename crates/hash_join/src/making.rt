@@ -4,7 +4,7 @@ ghost use Rattle.std.specs.List.{All};
 ghost use Rattle.rows.specs.Values.{arranged};
 ghost use Rattle.hash_join.specs.Table.{HasKeys, IsColumn, Table, places_of, rows_of};
 
-use crate::index::index_of;
+use crate::buckets::buckets_of;
 use crate::key::key_places;
 use crate::{Built, Parts};
 use lists::Duplicate;
@@ -16,11 +16,11 @@ use std::sync::Arc;
 fn indexed(alloc: Global, parts: Parts, columns: Vec<usize>) -> Result<Built, AllocError>
     ensures { IfOk result (λ built. built ≡ record { lists = parts; columns = columns.items }) }
 {
-    let index = index_of(alloc, parts.items(), columns.as_slice())?;
+    let buckets = buckets_of(alloc, parts.items(), columns.as_slice())?;
     Ok(Built {
         parts,
         columns,
-        index,
+        buckets,
     })
 }
 

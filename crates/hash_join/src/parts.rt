@@ -31,6 +31,21 @@ impl Parts {
         }
     }
 
+    /// The lists of rows, one for each position. It takes no memory.
+    pub fn from_vec(items: Vec<Arc<Rows>>) -> Parts
+        ensures { result ≡ map (λ x. x.value) items.items }
+    {
+        Parts { items }
+    }
+
+    /// The lists of rows, one for each position. It takes no memory.
+    pub fn into_vec(self) -> Vec<Arc<Rows>>
+        ensures { map (λ x. x.value) result.items ≡ self }
+    {
+        let Parts { items } = self;
+        items
+    }
+
     /// Adds the rows of a position at the end, or hands them back where there is no memory.
     pub fn push(&mut self, item: Arc<Rows>) -> Result<(), Arc<Rows>>
         ensures ok { OnOk result (self.new ≡ self.old ++ item.value ∷ []) }

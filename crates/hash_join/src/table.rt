@@ -1,11 +1,11 @@
 //! Rows that are found by their keys.
 ghost use Rattle.std.specs.Prelude.{◌≡◌, ◌<◌, Some, length, slice_get};
-ghost use Rattle.hash_join.specs.Table.{IsPlace, matching, row_at, rows_of};
+ghost use Rattle.hash_join.specs.Table.{IsPlace, key_of, matching, row_at, rows_of};
 ghost use Rattle.std.specs.List.{All};
 
 use crate::Parts;
-use crate::index::places_with;
-use crate::key::holds_null;
+use crate::buckets::{places_for, places_with};
+use crate::key::{holds_null, null_within};
 use lists::Sequence;
 use rows::{Row, Value};
 use std::marker::Model;
@@ -24,7 +24,7 @@ pub struct RowPlace {
 pub struct Built {
     pub(crate) parts: Parts,
     pub(crate) columns: Vec<usize>,
-    pub(crate) index: Vec<RowPlace>,
+    pub(crate) buckets: Vec<Vec<RowPlace>>,
 }
 
 /// Built values that are shared.
@@ -34,14 +34,15 @@ pub type BuiltList = Sequence<Arc<Built>>;
 pub type Inputs = Sequence<Arc<Built>>;
 
 impl Model for Built {
+    ghost use Rattle.std.specs.Prelude.{map};
     ghost use Rattle.hash_join.specs.Table.{Table};
-    ghost use Rattle.hash_join.specs.Found.{IsIndex};
+    ghost use Rattle.hash_join.specs.Found.{AreBuckets};
 
     ghost Value = { Table };
 
     ghost view = { λ b. record { lists = b.parts; columns = b.columns.items } };
 
-    ghost invariant = { λ b. IsIndex (record { lists = b.parts; columns = b.columns.items }) b.index.items };
+    ghost invariant = { λ b. AreBuckets (record { lists = b.parts; columns = b.columns.items }) (map (λ x. x.items) b.buckets.items) };
 }
 
 impl Built {
@@ -49,11 +50,28 @@ impl Built {
     fn found(&self, key: &[Value]) -> &[RowPlace]
         ensures { result.now ≡ matching self.now key.now }
     {
-        let index = self.index.as_slice();
         if holds_null(key) {
-            return &index[..0];
+            return &[];
         }
-        places_with(self.parts.items(), self.columns.as_slice(), index, key)
+        let buckets = self.buckets.as_slice();
+        places_with(self.parts.items(), self.columns.as_slice(), buckets, key)
+    }
+
+    // The places of the rows whose key has a row's values in columns, in order.
+    fn found_in(&self, row: &[Value], columns: &[usize]) -> &[RowPlace]
+        ensures { result.now ≡ matching self.now (key_of columns.now row.now) }
+    {
+        if null_within(row, columns) {
+            return &[];
+        }
+        let buckets = self.buckets.as_slice();
+        places_for(
+            self.parts.items(),
+            self.columns.as_slice(),
+            buckets,
+            row,
+            columns,
+        )
     }
 
     /// The places of the rows whose key is this one, in order of position and then of place. There is none where the key
@@ -63,6 +81,15 @@ impl Built {
         ensures places { All (IsPlace self.now.lists) result.now }
     {
         self.found(key.items())
+    }
+
+    /// The places of the rows whose key has the values of a row in these columns, as `matches` gives them for that key. A
+    /// row has null past its last column. It takes no memory.
+    pub fn matches_in(&self, row: &[Value], columns: &[usize]) -> &[RowPlace]
+        ensures found { result.now ≡ matching self.now (key_of columns.now row.now) }
+        ensures places { All (IsPlace self.now.lists) result.now }
+    {
+        self.found_in(row, columns)
     }
 
     /// The row at a place of this value.

@@ -11,7 +11,7 @@ use Rattle.rows.specs.Values.{value_cmp}
 use Rattle.hash_join.specs.declared.table.RowPlace.{RowPlace}
 use Rattle.hash_join.specs.Table.{Table, key_of, row_at}
 use Rattle.hash_join.proofs.Runs.{below_parted, upto_parted, equal_slice}
-use Rattle.hash_join.proofs.index.places_with.Goals as goal
+use Rattle.hash_join.proofs.index.run_with.Goals as goal
 
 pub returns : goal.returns
 returns c =

@@ -1,14 +1,14 @@
-use Rattle.std.proofs.Common.{rules, ◌≡◌, ◌∙◌, ap, filter, map, List, []}
+use Rattle.std.proofs.Common.{rules, ◌≡◌, map, List, []}
 use Rattle.std.specs.Ordering.{is_lt}
 use Rattle.std.proofs.lemmas.Fn.{always_returns_same}
 use Rattle.std.proofs.lemmas.List.Sorted.{ranks_by}
 use Rattle.rows.proofs.Orders.{row_total, row_exact}
 use Rattle.rows.specs.declared.value.Value.{Value}
 use Rattle.hash_join.specs.declared.table.RowPlace.{RowPlace}
-use Rattle.hash_join.specs.Table.{Table, key_of, row_at, has_key}
+use Rattle.hash_join.specs.Table.{Table, key_of, row_at}
 use Rattle.hash_join.specs.Found.{is_below}
 use Rattle.hash_join.proofs.Stable.{stable_keys}
-use Rattle.hash_join.proofs.index.index_of.Goals as goal
+use Rattle.hash_join.proofs.index.order_places.Goals as goal
 
 pub returns : goal.returns
 returns c =
@@ -18,5 +18,5 @@ returns c =
     let answers = always_returns_same _ (λ a r. is_lt r ≡ is_below table a.0.now a.1.0.now) _ (λ a r f' k. search rules) in
     record {
       sorted = c.in_ok-sort_by.ensures.sorted (is_below table) ranks answers;
-      found = λ k. stable_keys (row_total []) (row_exact []) key k _ _ c.in_ok-sort_by.ensures.permutation (c.in_ok-sort_by.ensures.stable (is_below table) ranks answers) ∙ ap (filter (has_key table k)) c.in_ok-index.ensures;
+      found = λ k. stable_keys (row_total []) (row_exact []) key k _ _ c.in_ok-sort_by.ensures.permutation (c.in_ok-sort_by.ensures.stable (is_below table) ranks answers);
     }

@@ -1,0 +1,15 @@
+use Rattle.std.proofs.Common.{map, ◌∙◌}
+use Rattle.std.proofs.lemmas.List.{length-map}
+use Rattle.hash_join.specs.Table.{Table, key_of}
+use Rattle.hash_join.proofs.Spread.{looked_up}
+use Rattle.hash_join.proofs.buckets.places_for.Goals as goal
+
+pub run_for-requires : goal.run_for-requires
+run_for-requires c =
+    let table : Table = record { lists = map (λ x. x.value) c.args.parts.now; columns = c.args.columns.now } in
+    (looked_up table (map (λ x. x.items) c.args.buckets.now) _ c.bucket_in-number.result (key_of c.args.others.now c.args.row.now) _ c.requires (length-map c.args.buckets.now (λ x. x.items)) c.bucket_in-number.ensures.number c.bucket_in-number.ensures.within c.bucket_at.ensures).0
+
+pub returns : goal.returns
+returns c =
+    let table : Table = record { lists = map (λ x. x.value) c.args.parts.now; columns = c.args.columns.now } in
+    c.run_for.ensures ∙ (looked_up table (map (λ x. x.items) c.args.buckets.now) _ c.bucket_in-number.result (key_of c.args.others.now c.args.row.now) _ c.requires (length-map c.args.buckets.now (λ x. x.items)) c.bucket_in-number.ensures.number c.bucket_in-number.ensures.within c.bucket_at.ensures).1
