@@ -11,3 +11,4 @@ mod EntryRows
 mod PlansMean
 mod ReadingExamples
 mod Left
+pub mod OneList

@@ -1,5 +1,6 @@
-//! What holds of the bounds of every query, and of every tree that fits what is counted of stored tables.
-ghost use Rattle.std.specs.Prelude.{◌≡◌, ◌==◌, ℕ, Bool, List};
+//! What holds of the bounds of every query, of every tree that fits what is counted of stored tables,
+//! and of the list of best plans.
+ghost use Rattle.std.specs.Prelude.{◌≡◌, ◌==◌, ℕ, Bool, List, All, length};
 ghost use Rattle.std.specs.List.{AllByRecursion};
 ghost use Rattle.rows.specs.declared.plain.Relation.{Relation};
 ghost use Rattle.rel_meaning.specs.declared.query.Table.{Table};
@@ -16,7 +17,7 @@ ghost use Rattle.seq_optimizer.specs.Costs.{FitsStats};
 ghost use Rattle.table_store.specs.declared.files.StoredTable.{StoredTable};
 ghost use Rattle.table_store.specs.Databases.{AreStored, MayStore};
 ghost use Rattle.query_planner.specs.Counted.{AreStats};
-ghost use Rattle.query_planner.specs.Plans.{IsPlanOf};
+ghost use Rattle.query_planner.specs.Plans.{AreBestPlans, IsPlanOf, MayPlan};
 ghost use Rattle.query_planner.specs.Reading.{read_by};
 
 /// The bounds that conjuncts set to a column of a variable hold for every row that passes the tests of the variable's
@@ -32,4 +33,22 @@ pub fn bound_laws()
 pub fn plan_laws()
     ensures meaning { (relations : List Relation) (db : List Table) (tables : List StoredTable) (q : Question) (m : Method) (t : Shape) (stats : List VarStats) → IsResolved db q → MayStore relations db → AreStored relations db tables → AreStats relations tables q stats → IsTree q m t → FitsStats stats t → tree_answer db q (read_by db tables q) t ≡ meaning db q }
     ensures planned { (relations : List Relation) (db : List Table) (tables : List StoredTable) (q : Question) (m : Method) (p : Planned) → IsResolved db q → MayStore relations db → AreStored relations db tables → IsPlanOf relations tables m q p → tree_answer db q (read_by db tables q) p.tree ≡ meaning db q }
+{}
+
+/// A database with a table for each relation is stored in one way, what is counted of its tables for
+/// a query that may be planned is one list, and so such queries have one list of best plans under a
+/// method, whichever stored form they were made over.
+pub fn one_plan_list()
+    ensures stored { (relations : List Relation) (db : List Table)
+        (tables others : List StoredTable) → length db ≡ length relations →
+        AreStored relations db tables → AreStored relations db others → tables ≡ others }
+    ensures counted { (relations : List Relation) (tables : List StoredTable) (q : Question)
+        (stats others : List VarStats) → length tables ≡ length relations →
+        MayPlan relations q → AreStats relations tables q stats →
+        AreStats relations tables q others → stats ≡ others }
+    ensures plans { (relations : List Relation) (db : List Table)
+        (tables others : List StoredTable) (m : Method) (qs : List Question)
+        (ps rs : List Planned) → length db ≡ length relations → All (MayPlan relations) qs →
+        AreStored relations db tables → AreStored relations db others →
+        AreBestPlans relations tables m qs ps → AreBestPlans relations others m qs rs → ps ≡ rs }
 {}

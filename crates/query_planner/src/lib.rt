@@ -8,5 +8,5 @@ mod planning;
 #[cfg(test)]
 mod tests;
 
-pub use laws::{bound_laws, plan_laws};
+pub use laws::{bound_laws, one_plan_list, plan_laws};
 pub use planning::{Planned, plan_queries};
