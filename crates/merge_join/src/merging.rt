@@ -195,10 +195,9 @@ fn put_rows(
 }
 
 /// Each left row of a slice with each right row that has its keys, none of them null, in the order
-/// of the left rows and then
-/// of the right ones. The left side is cut into 64 slices. Both sides are in the order of their key
-/// columns. An error is want
-/// of memory.
+/// of the left rows and then of the right ones. The left side is cut into 64 slices, numbered from 0.
+/// The rows of each side are of its layout and stand in one list, in the order of its key columns.
+/// An error is want of memory.
 pub fn merge_slice(
     alloc: Global,
     left: &Built,
