@@ -80,10 +80,12 @@ module _ (layout : List LayoutPart) (columns : List ColumnRef) (lists : List (Li
             (sort_ascends (row_total sorts) (rows_of lists))
 
         turn : (x y : List Value) → is_gt (row_cmp sorts x y) ≡ false
-            → is_lt (slice_cmp value_cmp (row_key layout columns y) (row_key layout columns x)) ≡ false
+            → is_lt (slice_cmp value_cmp (row_key layout columns y)
+            (row_key layout columns x)) ≡ false
         turn x y h =
             let o = slice_cmp value_cmp (row_key layout columns x) (row_key layout columns y) in
-            let e : is_gt o ≡ false = sym (ap is_gt (keys_are layout columns x y side.columns_there))
+            let e : is_gt o ≡ false =
+            sym (ap is_gt (keys_are layout columns x y side.columns_there))
             ∙ first_upto (keys_cmp sorts x y) (slice_cmp value_cmp x y) h in
             turned o _ ((lists_total value_total).antisymm (row_key layout columns y)
             (row_key layout columns x)) e
