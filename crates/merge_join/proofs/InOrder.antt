@@ -1,7 +1,8 @@
 -- The keys of arranged rows do not fall.
 use Rattle.std.proofs.Common.{◌≡◌, ℕ, zero, suc, ◌+◌, ◌<◌, ◌≤◌, Bool, true, false, List, [], ◌∷◌, refl, sym, ap, ◌∙◌, subst, arith, map, length, get_or}
-use Rattle.std.specs.Prelude.{Option, Some, None, IsSome, unwrap_or}
+use Rattle.std.specs.Prelude.{IsTrue, Option, Some, None, IsSome, unwrap_or}
 use Rattle.std.specs.List.{AllByRecursion}
+use Rattle.std.specs.Option.{option_and_then}
 use Rattle.std.specs.List.Sorted.{IsSortedBy}
 use Rattle.std.specs.declared.cmp.Ordering.{Ordering}
 use Rattle.std.specs.declared.cmp.Ordering.TheVariants.{Less, Equal, Greater}
@@ -16,12 +17,14 @@ use Rattle.rows.specs.declared.value.Value.{Value}
 use Rattle.rows.specs.declared.order.SortKey.{SortKey}
 use Rattle.rows.specs.declared.plain.ColumnRef.{ColumnRef}
 use Rattle.rows.specs.declared.plain.KeyPair.{KeyPair}
+use Rattle.rows.specs.declared.plain.LayoutColumn.{LayoutColumn}
 use Rattle.rows.specs.declared.plain.LayoutPart.{LayoutPart}
-use Rattle.rows.specs.Layouts.{IsRowIn, column_place, value_at}
+use Rattle.rel_meaning.specs.Typing.{compare_type, is_truth}
+use Rattle.rows.specs.Layouts.{IsRowIn, column_place, column_type, value_at}
 use Rattle.rows.specs.Values.{arranged, column_of, keys_cmp, row_cmp, value_cmp}
 use Rattle.rows.proofs.Orders.{row_exact, row_total, value_total}
 use Rattle.hash_join.specs.Table.{IsColumn, row_key, rows_of}
-use Rattle.plan_tree.specs.WellFormed.{sort_key}
+use Rattle.plan_tree.specs.WellFormed.{IsPair, sort_key}
 use Rattle.merge_join.specs.Sides.{ArePassed, AreBelow, IsSide, Rises, key_order, left_columns, right_columns}
 
 sorted_from_ascends : {X : Type 0} (cmp : X → X → Ordering) (less : X → X → Bool)
@@ -77,10 +80,12 @@ module _ (layout : List LayoutPart) (columns : List ColumnRef) (lists : List (Li
             (sort_ascends (row_total sorts) (rows_of lists))
 
         turn : (x y : List Value) → is_gt (row_cmp sorts x y) ≡ false
-            → is_lt (slice_cmp value_cmp (row_key layout columns y) (row_key layout columns x)) ≡ false
+            → is_lt (slice_cmp value_cmp (row_key layout columns y)
+            (row_key layout columns x)) ≡ false
         turn x y h =
             let o = slice_cmp value_cmp (row_key layout columns x) (row_key layout columns y) in
-            let e : is_gt o ≡ false = sym (ap is_gt (keys_are layout columns x y side.columns_there))
+            let e : is_gt o ≡ false =
+            sym (ap is_gt (keys_are layout columns x y side.columns_there))
             ∙ first_upto (keys_cmp sorts x y) (slice_cmp value_cmp x y) h in
             turned o _ ((lists_total value_total).antisymm (row_key layout columns y)
             (row_key layout columns x)) e
@@ -150,3 +155,28 @@ arranged_side layout columns rows lists is there fit =
       columns_there = there;
       in_order = all ∙ arranged_again sorts rows ∙ ap (arranged false sorts) (sym all);
     }
+
+some_place : (f : ℕ → Option LayoutColumn) (place : Option ℕ) → IsSome (option_and_then f place)
+    → IsSome place
+some_place f None some = some
+some_place f (Some place) some = refl
+
+both_typed : (a b : Option LayoutColumn) → IsTrue (is_truth (compare_type a b))
+    → IsSome a × IsSome b
+both_typed None b pair = cc
+both_typed (Some a) None pair = cc
+both_typed (Some a) (Some b) pair = (refl, refl)
+
+-- The sides of the keys of a merge are columns of the layouts.
+pub pairs_there : (left right : List LayoutPart) (keys : List KeyPair)
+    → AllByRecursion (IsPair left right) keys
+    → AllByRecursion (IsColumn left) (left_columns keys)
+    × AllByRecursion (IsColumn right) (right_columns keys)
+pairs_there left right [] pairs = (tt, tt)
+pairs_there left right (key ∷ keys) pairs =
+    let typed = both_typed (column_type left key.build.var key.build.col)
+    (column_type right key.probe.var key.probe.col) pairs.0 in
+    let rest = pairs_there left right keys pairs.1 in (
+      (some_place _ (column_place left key.build.var key.build.col) typed.0, rest.0),
+      (some_place _ (column_place right key.probe.var key.probe.col) typed.1, rest.1),
+    )

@@ -40,20 +40,14 @@ pub(crate) fn value_in<'a>(row: &'a Row, layout: &Layout, var: u32, col: usize) 
 }
 
 // The order of the values of a right row and a left row in the columns of one key.
-fn column_order(
-    a: &Row,
-    b: &Row,
-    left_layout: &Layout,
-    right_layout: &Layout,
-    key: KeyPair,
-) -> Ordering
-    requires left { IsRowIn left_layout.now a.now }
-    requires right { IsRowIn right_layout.now b.now }
-    ensures { result ≡ value_cmp (column_in right_layout.now b.now key.probe.var key.probe.col)
-        (column_in left_layout.now a.now key.build.var key.build.col) }
+fn column_order(a: &Row, b: &Row, first: &Layout, second: &Layout, key: KeyPair) -> Ordering
+    requires left { IsRowIn first.now a.now }
+    requires right { IsRowIn second.now b.now }
+    ensures { result ≡ value_cmp (column_in second.now b.now key.probe.var key.probe.col)
+        (column_in first.now a.now key.build.var key.build.col) }
 {
-    let own = value_in(b, right_layout, key.probe.var, key.probe.col as usize);
-    let other = value_in(a, left_layout, key.build.var, key.build.col as usize);
+    let own = value_in(b, second, key.probe.var, key.probe.col as usize);
+    let other = value_in(a, first, key.build.var, key.build.col as usize);
     match (own, other) {
         (Some(first), Some(second)) => compare(first, second),
         (Some(first), None) => compare(first, &Value::Null),
@@ -66,19 +60,19 @@ fn column_order(
 pub(crate) fn keys_order(
     a: &Row,
     b: &Row,
-    left_layout: &Layout,
-    right_layout: &Layout,
+    first: &Layout,
+    second: &Layout,
     keys: &[KeyPair],
 ) -> Ordering
-    requires left { IsRowIn left_layout.now a.now }
-    requires right { IsRowIn right_layout.now b.now }
-    ensures { result ≡ key_order left_layout.now right_layout.now keys.now a.now b.now }
+    requires left { IsRowIn first.now a.now }
+    requires right { IsRowIn second.now b.now }
+    ensures { result ≡ key_order first.now second.now keys.now a.now b.now }
 {
     let Some((key, keys)) = keys.split_first() else {
         return Ordering::Equal;
     };
-    match column_order(a, b, left_layout, right_layout, *key) {
-        Ordering::Equal => keys_order(a, b, left_layout, right_layout, keys),
+    match column_order(a, b, first, second, *key) {
+        Ordering::Equal => keys_order(a, b, first, second, keys),
         order => order,
     }
 }

@@ -27,27 +27,27 @@ fn put_run(
     a: &Row,
     right: &Built,
     start: u64,
-    left_layout: &Layout,
-    right_layout: &Layout,
+    first: &Layout,
+    second: &Layout,
     keys: &KeyPairList,
 ) -> Result<(), AllocError>
     requires one { length right.now.lists ≡ 1 }
-    requires fit { AllByRecursion (IsRowIn right_layout.now) (rows_of right.now.lists) }
-    requires left { IsRowIn left_layout.now a.now }
-    requires rises { Rises left_layout.now right_layout.now keys.now a.now (rows_of right.now.lists) }
+    requires fit { AllByRecursion (IsRowIn second.now) (rows_of right.now.lists) }
+    requires left { IsRowIn first.now a.now }
+    requires rises { Rises first.now second.now keys.now a.now (rows_of right.now.lists) }
     requires within { start ≤ length (rows_of right.now.lists) }
-    requires start { IsStart left_layout.now right_layout.now keys.now a.now (rows_of right.now.lists) start }
-    ensures { OnOk result (out.new.items ≡ out.old.items ++ with_each layout.now left_layout.now
-        right_layout.now a.now
-        (of_key left_layout.now right_layout.now keys.now a.now (rows_of right.now.lists))) }
+    requires start { IsStart first.now second.now keys.now a.now (rows_of right.now.lists) start }
+    ensures { OnOk result (out.new.items ≡ out.old.items ++ with_each layout.now first.now
+        second.now a.now
+        (of_key first.now second.now keys.now a.now (rows_of right.now.lists))) }
 {
     let count = right.rows();
     for number in start..count {
         let b = right.nth(number);
-        if !keys_order(a, b, left_layout, right_layout, keys.items()).is_eq() {
+        if !keys_order(a, b, first, second, keys.items()).is_eq() {
             return Ok(());
         }
-        out.push(combined_row(alloc, layout, left_layout, right_layout, a, b)?)?;
+        out.push(combined_row(alloc, layout, first, second, a, b)?)?;
     }
     Ok(())
 }
@@ -60,34 +60,24 @@ fn put_matches(
     a: &Row,
     right: &Built,
     start: u64,
-    left_layout: &Layout,
-    right_layout: &Layout,
+    first: &Layout,
+    second: &Layout,
     keys: &KeyPairList,
 ) -> Result<(), AllocError>
     requires one { length right.now.lists ≡ 1 }
-    requires fit { AllByRecursion (IsRowIn right_layout.now) (rows_of right.now.lists) }
-    requires left { IsRowIn left_layout.now a.now }
-    requires rises { Rises left_layout.now right_layout.now keys.now a.now (rows_of right.now.lists) }
+    requires fit { AllByRecursion (IsRowIn second.now) (rows_of right.now.lists) }
+    requires left { IsRowIn first.now a.now }
+    requires rises { Rises first.now second.now keys.now a.now (rows_of right.now.lists) }
     requires within { start ≤ length (rows_of right.now.lists) }
-    requires start { IsStart left_layout.now right_layout.now keys.now a.now (rows_of right.now.lists) start }
-    ensures { OnOk result (out.new.items ≡ out.old.items ++ with_each layout.now left_layout.now
-        right_layout.now a.now
-        (matches_of left_layout.now right_layout.now keys.now a.now (rows_of right.now.lists))) }
+    requires start { IsStart first.now second.now keys.now a.now (rows_of right.now.lists) start }
+    ensures { OnOk result (out.new.items ≡ out.old.items ++ with_each layout.now first.now
+        second.now a.now
+        (matches_of first.now second.now keys.now a.now (rows_of right.now.lists))) }
 {
-    if holds_null(a, left_layout, keys.items()) {
+    if holds_null(a, first, keys.items()) {
         return Ok(());
     }
-    put_run(
-        out,
-        alloc,
-        layout,
-        a,
-        right,
-        start,
-        left_layout,
-        right_layout,
-        keys,
-    )
+    put_run(out, alloc, layout, a, right, start, first, second, keys)
 }
 
 // Adds what a left row matches, and gives the number of the first right row whose key isn't below.
@@ -99,37 +89,27 @@ fn put_row(
     number: u64,
     right: &Built,
     start: u64,
-    left_layout: &Layout,
-    right_layout: &Layout,
+    first: &Layout,
+    second: &Layout,
     keys: &KeyPairList,
 ) -> Result<u64, AllocError>
-    requires left { IsSide left_layout.now (left_columns keys.now) left.now.lists }
-    requires right { IsSide right_layout.now (right_columns keys.now) right.now.lists }
+    requires left { IsSide first.now (left_columns keys.now) left.now.lists }
+    requires right { IsSide second.now (right_columns keys.now) right.now.lists }
     requires number { number < length (rows_of left.now.lists) }
     requires within { start ≤ length (rows_of right.now.lists) }
-    requires passed { ArePassed left_layout.now right_layout.now keys.now (rows_of left.now.lists)
+    requires passed { ArePassed first.now second.now keys.now (rows_of left.now.lists)
         (rows_of right.now.lists) number start }
     ensures within { IfOk result (λ next. next ≤ length (rows_of right.now.lists)) }
-    ensures passed { IfOk result (ArePassed left_layout.now right_layout.now keys.now (rows_of left.now.lists)
+    ensures passed { IfOk result (ArePassed first.now second.now keys.now (rows_of left.now.lists)
         (rows_of right.now.lists) number) }
-    ensures added { OnOk result (out.new.items ≡ out.old.items ++ with_each layout.now left_layout.now
-        right_layout.now (slice_index_or (rows_of left.now.lists) number [])
-        (matches_of left_layout.now right_layout.now keys.now
+    ensures added { OnOk result (out.new.items ≡ out.old.items ++ with_each layout.now first.now
+        second.now (slice_index_or (rows_of left.now.lists) number [])
+        (matches_of first.now second.now keys.now
         (slice_index_or (rows_of left.now.lists) number []) (rows_of right.now.lists))) }
 {
     let a = left.nth(number);
-    let next = first_from(right, start, a, left_layout, right_layout, keys);
-    put_matches(
-        out,
-        alloc,
-        layout,
-        a,
-        right,
-        next,
-        left_layout,
-        right_layout,
-        keys,
-    )?;
+    let next = first_from(right, start, a, first, second, keys);
+    put_matches(out, alloc, layout, a, right, next, first, second, keys)?;
     Ok(next)
 }
 
@@ -139,20 +119,20 @@ fn first_start(
     left: &Built,
     number: u64,
     right: &Built,
-    left_layout: &Layout,
-    right_layout: &Layout,
+    first: &Layout,
+    second: &Layout,
     keys: &KeyPairList,
 ) -> u64
-    requires left { IsSide left_layout.now (left_columns keys.now) left.now.lists }
-    requires right { IsSide right_layout.now (right_columns keys.now) right.now.lists }
+    requires left { IsSide first.now (left_columns keys.now) left.now.lists }
+    requires right { IsSide second.now (right_columns keys.now) right.now.lists }
     ensures within { result ≤ length (rows_of right.now.lists) }
-    ensures passed { ArePassed left_layout.now right_layout.now keys.now (rows_of left.now.lists)
+    ensures passed { ArePassed first.now second.now keys.now (rows_of left.now.lists)
         (rows_of right.now.lists) number result }
 {
     if number >= left.rows() {
         return 0;
     }
-    first_of(right, left.nth(number), left_layout, right_layout, keys)
+    first_of(right, left.nth(number), first, second, keys)
 }
 
 // Adds what the left rows between two numbers match.
@@ -164,41 +144,32 @@ fn put_rows(
     from: u64,
     upto: u64,
     right: &Built,
-    left_layout: &Layout,
-    right_layout: &Layout,
+    first: &Layout,
+    second: &Layout,
     keys: &KeyPairList,
 ) -> Result<(), AllocError>
-    requires layout { layout.now ≡ merged left_layout.now right_layout.now }
-    requires left { IsSide left_layout.now (left_columns keys.now) left.now.lists }
-    requires right { IsSide right_layout.now (right_columns keys.now) right.now.lists }
+    requires layout { layout.now ≡ merged first.now second.now }
+    requires left { IsSide first.now (left_columns keys.now) left.now.lists }
+    requires right { IsSide second.now (right_columns keys.now) right.now.lists }
     requires within { upto ≤ length (rows_of left.now.lists) }
-    ensures { OnOk result (out.new.items ≡ out.old.items ++ matched left_layout.now right_layout.now
+    ensures { OnOk result (out.new.items ≡ out.old.items ++ matched first.now second.now
         keys.now (take (upto - from) (drop from (rows_of left.now.lists)))
         (rows_of right.now.lists)) }
 {
-    let mut start = first_start(left, from, right, left_layout, right_layout, keys);
+    let mut start = first_start(left, from, right, first, second, keys);
     for number in from..upto {
         start = put_row(
-            out,
-            alloc,
-            layout,
-            left,
-            number,
-            right,
-            start,
-            left_layout,
-            right_layout,
-            keys,
+            out, alloc, layout, left, number, right, start, first, second, keys,
         )?;
     }
     Ok(())
 }
 
 /// Each left row of a slice with each right row that has its keys, none of them null, in the order
-/// of the left rows and then
-/// of the right ones. The left side is cut into 64 slices. Both sides are in the order of their key
-/// columns. An error is want
-/// of memory.
+/// of the left rows and then of the right ones. The left side is cut into 64 slices, numbered from
+/// 0.
+/// The rows of each side are of its layout and stand in one list, in the order of its key columns.
+/// An error is want of memory.
 pub fn merge_slice(
     alloc: Global,
     left: &Built,

@@ -15,46 +15,40 @@ fn order_at(
     right: &Built,
     number: u64,
     a: &Row,
-    left_layout: &Layout,
-    right_layout: &Layout,
+    first: &Layout,
+    second: &Layout,
     keys: &KeyPairList,
 ) -> Ordering
     requires one { length right.now.lists ≡ 1 }
-    requires fit { AllByRecursion (IsRowIn right_layout.now) (rows_of right.now.lists) }
-    requires left { IsRowIn left_layout.now a.now }
+    requires fit { AllByRecursion (IsRowIn second.now) (rows_of right.now.lists) }
+    requires left { IsRowIn first.now a.now }
     requires within { number < length (rows_of right.now.lists) }
-    ensures { result ≡ key_order left_layout.now right_layout.now keys.now a.now
+    ensures { result ≡ key_order first.now second.now keys.now a.now
         (slice_index_or (rows_of right.now.lists) number []) }
 {
-    keys_order(
-        a,
-        right.nth(number),
-        left_layout,
-        right_layout,
-        keys.items(),
-    )
+    keys_order(a, right.nth(number), first, second, keys.items())
 }
 
 // The number of the first right row whose key isn't below that of a left row, found by halves.
 pub(crate) fn first_of(
     right: &Built,
     a: &Row,
-    left_layout: &Layout,
-    right_layout: &Layout,
+    first: &Layout,
+    second: &Layout,
     keys: &KeyPairList,
 ) -> u64
     requires one { length right.now.lists ≡ 1 }
-    requires fit { AllByRecursion (IsRowIn right_layout.now) (rows_of right.now.lists) }
-    requires left { IsRowIn left_layout.now a.now }
-    requires rises { Rises left_layout.now right_layout.now keys.now a.now (rows_of right.now.lists) }
+    requires fit { AllByRecursion (IsRowIn second.now) (rows_of right.now.lists) }
+    requires left { IsRowIn first.now a.now }
+    requires rises { Rises first.now second.now keys.now a.now (rows_of right.now.lists) }
     ensures within { result ≤ length (rows_of right.now.lists) }
-    ensures start { IsStart left_layout.now right_layout.now keys.now a.now (rows_of right.now.lists) result }
+    ensures start { IsStart first.now second.now keys.now a.now (rows_of right.now.lists) result }
 {
     let mut low = 0;
     let mut high = right.rows();
     while low < high {
         let middle = low + (high - low) / 2;
-        if order_at(right, middle, a, left_layout, right_layout, keys).is_lt() {
+        if order_at(right, middle, a, first, second, keys).is_lt() {
             low = middle + 1;
         } else {
             high = middle;
@@ -68,22 +62,22 @@ pub(crate) fn first_from(
     right: &Built,
     from: u64,
     a: &Row,
-    left_layout: &Layout,
-    right_layout: &Layout,
+    first: &Layout,
+    second: &Layout,
     keys: &KeyPairList,
 ) -> u64
     requires one { length right.now.lists ≡ 1 }
-    requires fit { AllByRecursion (IsRowIn right_layout.now) (rows_of right.now.lists) }
-    requires left { IsRowIn left_layout.now a.now }
-    requires rises { Rises left_layout.now right_layout.now keys.now a.now (rows_of right.now.lists) }
+    requires fit { AllByRecursion (IsRowIn second.now) (rows_of right.now.lists) }
+    requires left { IsRowIn first.now a.now }
+    requires rises { Rises first.now second.now keys.now a.now (rows_of right.now.lists) }
     requires within { from ≤ length (rows_of right.now.lists) }
-    requires below { AreBelow left_layout.now right_layout.now keys.now a.now (rows_of right.now.lists) from }
+    requires below { AreBelow first.now second.now keys.now a.now (rows_of right.now.lists) from }
     ensures within { result ≤ length (rows_of right.now.lists) }
-    ensures start { IsStart left_layout.now right_layout.now keys.now a.now (rows_of right.now.lists) result }
+    ensures start { IsStart first.now second.now keys.now a.now (rows_of right.now.lists) result }
 {
     let count = right.rows();
     for number in from..count {
-        if !order_at(right, number, a, left_layout, right_layout, keys).is_lt() {
+        if !order_at(right, number, a, first, second, keys).is_lt() {
             return number;
         }
     }

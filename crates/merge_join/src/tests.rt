@@ -272,10 +272,33 @@ fn column(col_type: ColType) -> LayoutColumn {
     }
 }
 
+// Whether the rows of all slices are these.
+fn are_joined(
+    alloc: Global,
+    pairs: &[(u32, u32)],
+    left: &str,
+    right: &str,
+    wanted: &str,
+) -> Result<bool, AllocError> {
+    let columns = [column(ColType::Text), column(ColType::Int4)];
+    let found = joined(
+        alloc,
+        &columns,
+        pairs,
+        rows(alloc, left)?,
+        rows(alloc, right)?,
+    )?;
+    let wanted = rows(alloc, wanted)?;
+    for (a, b) in found.as_slice().iter().zip(wanted.items()) {
+        if a.items() != b.items() {
+            return Ok(false);
+        }
+    }
+    Ok(found.len() == wanted.len())
+}
+
 #[test]
 fn rows_of_equal_keys_are_combined(rt: HostRuntime) -> Result<(), Fail> {
-    let alloc = rt.alloc();
-    let columns = [column(ColType::Text), column(ColType::Int4)];
     let table: [(&[(u32, u32)], &str, &str, &str); 5] = [
         (
             &[(0, 0)],
@@ -304,18 +327,8 @@ fn rows_of_equal_keys_are_combined(rt: HostRuntime) -> Result<(), Fail> {
         (&[], "a,1;b,2", "c,3;d,4", "c,3,a,1;d,4,a,1;c,3,b,2;d,4,b,2"),
     ];
     for (pairs, left, right, wanted) in table {
-        let found = joined(
-            alloc,
-            &columns,
-            pairs,
-            rows(alloc, left)?,
-            rows(alloc, right)?,
-        )?;
-        let wanted = rows(alloc, wanted)?;
-        assert_eq!(rt; found.len(), wanted.len(), "{left} and {right}");
-        for (a, b) in found.as_slice().iter().zip(wanted.items()) {
-            assert!(rt; a.items() == b.items(), "{left} and {right}");
-        }
+        let same = are_joined(rt.alloc(), pairs, left, right, wanted)?;
+        assert!(rt; same, "{left} and {right}");
     }
     Ok(())
 }

@@ -12,23 +12,23 @@ use Rattle.merge_join.proofs.merging.put_matches.Goals as goal
 pub returns-then-holds_null : goal.returns-then-holds_null
 returns-then-holds_null c =
     let e = rw c.items.ensures at c.holds_null.ensures in
-    let null : list_any is_null (row_key c.args.left_layout.now (left_columns c.args.keys.now)
+    let null : list_any is_null (row_key c.args.first.now (left_columns c.args.keys.now)
     c.args.a.now) ≡ true = sym e ∙ c.if-holds_null.true in
     sym (append-nil c.args.out.now.items)
     ∙ ap (λ bs. c.args.out.now.items
-    ++ map (λ b. combined c.args.layout.now c.args.left_layout.now c.args.right_layout.now
+    ++ map (λ b. combined c.args.layout.now c.args.first.now c.args.second.now
     c.args.a.now b) bs)
-    (sym (no_match c.args.left_layout.now c.args.right_layout.now c.args.keys.now c.args.a.now
+    (sym (no_match c.args.first.now c.args.second.now c.args.keys.now c.args.a.now
     (rows_of c.args.right.now.lists) null))
 
 pub returns : goal.returns
 returns c =
     let e = rw c.items.ensures at c.holds_null.ensures in
-    let null : list_any is_null (row_key c.args.left_layout.now (left_columns c.args.keys.now)
+    let null : list_any is_null (row_key c.args.first.now (left_columns c.args.keys.now)
     c.args.a.now) ≡ false = sym e ∙ c.if-holds_null.false in
     subst (λ bs. OnOk c.put_run.result (c.put_run.new.out.items ≡ c.args.out.now.items
-    ++ map (λ b. combined c.args.layout.now c.args.left_layout.now c.args.right_layout.now
+    ++ map (λ b. combined c.args.layout.now c.args.first.now c.args.second.now
     c.args.a.now b) bs))
-    (run_matches c.args.left_layout.now c.args.right_layout.now c.args.keys.now c.args.a.now
+    (run_matches c.args.first.now c.args.second.now c.args.keys.now c.args.a.now
     (rows_of c.args.right.now.lists) null)
     c.put_run.ensures

@@ -11,7 +11,7 @@ use Rattle.merge_join.proofs.merging.put_row.Goals as goal
 
 pub first_from-next-requires-clause-rises : goal.first_from-next-requires-clause-rises
 first_from-next-requires-clause-rises c =
-    right_rises c.args.left_layout.now c.args.right_layout.now c.args.keys.now c.args.left.now.lists
+    right_rises c.args.first.now c.args.second.now c.args.keys.now c.args.left.now.lists
     c.args.right.now.lists c.requires.left c.requires.right c.nth-a.result.now
 
 pub first_from-next-requires-clause-below : goal.first_from-next-requires-clause-below
@@ -19,18 +19,18 @@ first_from-next-requires-clause-below c =
     let is : get_or (rows_of c.args.left.now.lists) c.args.number []
     ≡ c.nth-a.result.now = get_or_from_slice_get (rows_of c.args.left.now.lists) c.args.number
     c.nth-a.result.now [] c.nth-a.ensures in
-    subst (λ a. AreBelow c.args.left_layout.now c.args.right_layout.now c.args.keys.now a
+    subst (λ a. AreBelow c.args.first.now c.args.second.now c.args.keys.now a
     (rows_of c.args.right.now.lists) c.args.start) is
     (c.requires.passed c.args.number [] (omega arith) c.requires.number)
 
 pub put_matches-requires-clause-left : goal.put_matches-requires-clause-left
 put_matches-requires-clause-left c =
-    fits_get (IsRowIn c.args.left_layout.now) (rows_of c.args.left.now.lists) c.args.number
+    fits_get (IsRowIn c.args.first.now) (rows_of c.args.left.now.lists) c.args.number
     c.nth-a.result.now c.nth-a.ensures c.requires.left.fit
 
 pub put_matches-requires-clause-rises : goal.put_matches-requires-clause-rises
 put_matches-requires-clause-rises c =
-    right_rises c.args.left_layout.now c.args.right_layout.now c.args.keys.now c.args.left.now.lists
+    right_rises c.args.first.now c.args.second.now c.args.keys.now c.args.left.now.lists
     c.args.right.now.lists c.requires.left c.requires.right c.nth-a.result.now
 
 pub returns-clause-passed : goal.returns-clause-passed
@@ -38,10 +38,10 @@ returns-clause-passed c =
     let is : get_or (rows_of c.args.left.now.lists) c.args.number []
     ≡ c.nth-a.result.now = get_or_from_slice_get (rows_of c.args.left.now.lists) c.args.number
     c.nth-a.result.now [] c.nth-a.ensures in
-    passed_from c.args.left_layout.now c.args.right_layout.now c.args.keys.now c.args.left.now.lists
+    passed_from c.args.first.now c.args.second.now c.args.keys.now c.args.left.now.lists
     c.args.right.now.lists c.requires.left c.requires.right c.args.number []
     c.first_from-next.result c.requires.number
-    (subst (λ a. AreBelow c.args.left_layout.now c.args.right_layout.now c.args.keys.now a
+    (subst (λ a. AreBelow c.args.first.now c.args.second.now c.args.keys.now a
     (rows_of c.args.right.now.lists) c.first_from-next.result) (sym is)
     c.first_from-next.ensures.start.0)
 
@@ -51,7 +51,7 @@ returns-clause-added c =
     ≡ c.nth-a.result.now = get_or_from_slice_get (rows_of c.args.left.now.lists) c.args.number
     c.nth-a.result.now [] c.nth-a.ensures in
     subst (λ a. c.put_matches.new.out.items ≡ c.args.out.now.items
-    ++ map (λ b. combined c.args.layout.now c.args.left_layout.now c.args.right_layout.now a b)
-    (filter (λ b. keys_match c.args.left_layout.now c.args.right_layout.now c.args.keys.now a b)
+    ++ map (λ b. combined c.args.layout.now c.args.first.now c.args.second.now a b)
+    (filter (λ b. keys_match c.args.first.now c.args.second.now c.args.keys.now a b)
     (rows_of c.args.right.now.lists)))
     (sym is) c.in_ok-put_matches.ensures

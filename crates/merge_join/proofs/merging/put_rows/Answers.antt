@@ -7,8 +7,8 @@ use Rattle.merge_join.proofs.merging.put_rows.Goals as goal
 
 pub loop-number-preserved : goal.loop-number-preserved
 loop-number-preserved c =
-    let left = c.args.left_layout.now in
-    let right = c.args.right_layout.now in
+    let left = c.args.first.now in
+    let right = c.args.second.now in
     let keys = c.args.keys.now in
     let lefts = rows_of c.args.left.now.lists in
     let rows = rows_of c.args.right.now.lists in

@@ -7,10 +7,10 @@ use Rattle.merge_join.proofs.merging.put_rows.Given as goal
 abbrev pub invariant-loop-number : goal.invariant-loop-number
 invariant-loop-number l = record {
   within : l.start ≤ length (rows_of l.right.lists);
-  passed : ArePassed l.left_layout l.right_layout l.keys (rows_of l.left.lists)
+  passed : ArePassed l.first l.second l.keys (rows_of l.left.lists)
       (rows_of l.right.lists) l.number l.start;
-  made : l.out.items ++ matched l.left_layout l.right_layout l.keys
+  made : l.out.items ++ matched l.first l.second l.keys
       (take (l.upto - l.number) (drop l.number (rows_of l.left.lists))) (rows_of l.right.lists)
-      ≡ l.fn.out.items ++ matched l.left_layout l.right_layout l.keys
+      ≡ l.fn.out.items ++ matched l.first l.second l.keys
       (take (l.upto - l.from) (drop l.from (rows_of l.left.lists))) (rows_of l.right.lists);
 }

@@ -11,22 +11,22 @@ use Rattle.merge_join.proofs.merging.put_run.Goals as goal
 
 pub loop-number-init : goal.loop-number-init
 loop-number-init c =
-    let order = key_order c.args.left_layout.now c.args.right_layout.now c.args.keys.now
+    let order = key_order c.args.first.now c.args.second.now c.args.keys.now
     c.args.a.now in
     ap (λ bs. c.args.out.now.items
-    ++ map (λ b. combined c.args.layout.now c.args.left_layout.now c.args.right_layout.now
+    ++ map (λ b. combined c.args.layout.now c.args.first.now c.args.second.now
     c.args.a.now b) bs)
     (run_begins order (rows_of c.args.right.now.lists) c.args.start
     c.requires.within c.requires.start.0)
 
 pub keys_order-requires-clause-right : goal.keys_order-requires-clause-right
 keys_order-requires-clause-right c =
-    fits_get (IsRowIn c.args.right_layout.now) (rows_of c.args.right.now.lists) c.loop-number.number
+    fits_get (IsRowIn c.args.second.now) (rows_of c.args.right.now.lists) c.loop-number.number
     c.nth-b.result.now c.nth-b.ensures c.requires.fit
 
 pub returns-then-not-is_eq : goal.returns-then-not-is_eq
 returns-then-not-is_eq c =
-    let order = key_order c.args.left_layout.now c.args.right_layout.now c.args.keys.now
+    let order = key_order c.args.first.now c.args.second.now c.args.keys.now
     c.args.a.now in
     let rows = rows_of c.args.right.now.lists in
     let number = c.loop-number.number in
@@ -40,7 +40,7 @@ returns-then-not-is_eq c =
     let not_below : is_lt (order (get_or rows number [])) ≡ false = c.requires.start.1 number []
     (omega (arith, c.loop-number.auto.number)) within in
     run_ends (λ b. is_eq (order b))
-    (λ b. combined c.args.layout.now c.args.left_layout.now c.args.right_layout.now c.args.a.now
+    (λ b. combined c.args.layout.now c.args.first.now c.args.second.now c.args.a.now
     b) rows number _ _
     (none_behind (λ b. is_eq (order b)) rows number
     (unequal_from order rows c.requires.rises number [] within not_below unlike))
@@ -48,19 +48,19 @@ returns-then-not-is_eq c =
 
 pub combined_row-requires-clause-second : goal.combined_row-requires-clause-second
 combined_row-requires-clause-second c =
-    fits_get (IsRowIn c.args.right_layout.now) (rows_of c.args.right.now.lists) c.loop-number.number
+    fits_get (IsRowIn c.args.second.now) (rows_of c.args.right.now.lists) c.loop-number.number
     c.nth-b.result.now c.nth-b.ensures c.requires.fit
 
 pub loop-number-preserved : goal.loop-number-preserved
 loop-number-preserved c =
-    let order = key_order c.args.left_layout.now c.args.right_layout.now c.args.keys.now
+    let order = key_order c.args.first.now c.args.second.now c.args.keys.now
     c.args.a.now in
     let b = c.nth-b.result.now in
     let e : c.keys_order.result ≡ order b = rw c.items.ensures at c.keys_order.ensures in
     let same : is_eq (order b)
     ≡ true = (let f = c.is_eq.ensures in let g = c.if-not-is_eq.false in cc) in
     run_more (λ b. is_eq (order b))
-    (λ b. combined c.args.layout.now c.args.left_layout.now c.args.right_layout.now c.args.a.now
+    (λ b. combined c.args.layout.now c.args.first.now c.args.second.now c.args.a.now
     b)
     (rows_of c.args.right.now.lists) c.loop-number.number b c.in_ok-combined_row.field-0
     c.loop-number.out.items c.push.new.self.items _

@@ -5,7 +5,7 @@ use Rattle.merge_join.proofs.merging.put_run.Given as goal
 
 abbrev pub invariant-loop-number : goal.invariant-loop-number
 invariant-loop-number l =
-    l.out.items ++ with_each l.layout l.left_layout l.right_layout l.a
-    (of_key l.left_layout l.right_layout l.keys l.a (drop l.number (rows_of l.right.lists)))
-    ≡ l.fn.out.items ++ with_each l.layout l.left_layout l.right_layout l.a
-    (of_key l.left_layout l.right_layout l.keys l.a (rows_of l.right.lists))
+    l.out.items ++ with_each l.layout l.first l.second l.a
+    (of_key l.first l.second l.keys l.a (drop l.number (rows_of l.right.lists)))
+    ≡ l.fn.out.items ++ with_each l.layout l.first l.second l.a
+    (of_key l.first l.second l.keys l.a (rows_of l.right.lists))

@@ -7,7 +7,7 @@ use Rattle.merge_join.proofs.search.first_from.Goals as goal
 
 pub returns-then-not-is_lt-clause-start : goal.returns-then-not-is_lt-clause-start
 returns-then-not-is_lt-clause-start c =
-    let order = key_order c.args.left_layout.now c.args.right_layout.now c.args.keys.now
+    let order = key_order c.args.first.now c.args.second.now c.args.keys.now
     c.args.a.now in
     let rows = rows_of c.args.right.now.lists in
     let within : c.loop-number.number < length rows =

@@ -3,5 +3,5 @@ use Rattle.merge_join.specs.Sides.{AreBelow}
 use Rattle.merge_join.proofs.search.first_from.Given as goal
 
 abbrev pub invariant-loop-number : goal.invariant-loop-number
-invariant-loop-number l = AreBelow l.left_layout l.right_layout l.keys l.a (rows_of l.right.lists)
+invariant-loop-number l = AreBelow l.first l.second l.keys l.a (rows_of l.right.lists)
     l.number

@@ -7,7 +7,7 @@ use Rattle.merge_join.proofs.search.first_of.Goals as goal
 
 pub loop-low-preserved-then-is_lt : goal.loop-low-preserved-then-is_lt
 loop-low-preserved-then-is_lt c =
-    let order = key_order c.args.left_layout.now c.args.right_layout.now c.args.keys.now
+    let order = key_order c.args.first.now c.args.second.now c.args.keys.now
     c.args.a.now in
     let rows = rows_of c.args.right.now.lists in
     let middle = c.loop-low.low + (c.loop-low.high - c.loop-low.low) / 2 in
@@ -25,7 +25,7 @@ loop-low-preserved-then-is_lt c =
 
 pub loop-low-preserved : goal.loop-low-preserved
 loop-low-preserved c =
-    let order = key_order c.args.left_layout.now c.args.right_layout.now c.args.keys.now
+    let order = key_order c.args.first.now c.args.second.now c.args.keys.now
     c.args.a.now in
     let rows = rows_of c.args.right.now.lists in
     let middle = c.loop-low.low + (c.loop-low.high - c.loop-low.low) / 2 in

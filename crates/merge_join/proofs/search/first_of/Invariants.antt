@@ -9,8 +9,8 @@ abbrev pub invariant-loop-low : goal.invariant-loop-low
 invariant-loop-low l = record {
   ordered : l.low ≤ l.high;
   within : l.high ≤ length (rows_of l.right.lists);
-  below : AreBelow l.left_layout l.right_layout l.keys l.a (rows_of l.right.lists) l.low;
-  rest : AllWithin (λ b. is_lt (key_order l.left_layout l.right_layout l.keys l.a b) ≡ false)
+  below : AreBelow l.first l.second l.keys l.a (rows_of l.right.lists) l.low;
+  rest : AllWithin (λ b. is_lt (key_order l.first l.second l.keys l.a b) ≡ false)
       (rows_of l.right.lists) l.high (length (rows_of l.right.lists));
 }
 
