@@ -62,13 +62,26 @@ fn put_rows(out: &mut Vec<Row>, alloc: Global, rows: &[Row]) -> Result<(), Alloc
     Ok(())
 }
 
-// Copies of all rows, by position.
-fn joined(alloc: Global, parts: &[Arc<Rows>]) -> Result<Vec<Row>, AllocError>
-    ensures { IfOk result (λ rows. rows.items ≡ rows_of (map (λ x. x.value) parts.now)) }
+// Adds the rows of a part. They are moved where nothing else shares them, and copied else.
+fn add_part(out: &mut Vec<Row>, alloc: Global, part: Arc<Rows>) -> Result<(), AllocError>
+    ensures { OnOk result (out.new.items ≡ out.old.items ++ part.value) }
+{
+    match Arc::try_unwrap(part) {
+        Ok(rows) => {
+            let mut rows = rows.into_vec();
+            out.append(&mut rows)
+        }
+        Err(shared) => put_rows(out, alloc, shared.items()),
+    }
+}
+
+// All rows, by position.
+fn joined(alloc: Global, parts: Parts) -> Result<Vec<Row>, AllocError>
+    ensures { IfOk result (λ rows. rows.items ≡ rows_of parts) }
 {
     let mut out = Vec::new(alloc);
-    for rows in parts {
-        put_rows(&mut out, alloc, rows.items())?;
+    for part in parts.into_vec() {
+        add_part(&mut out, alloc, part)?;
     }
     Ok(out)
 }
@@ -85,7 +98,8 @@ fn one_list(alloc: Global, rows: Vec<Row>) -> Result<Parts, AllocError>
 }
 
 /// The rows of all positions in the order of an answer, by the sort keys and then by all columns, and one of equal rows
-/// where `unique`. They stand in one list, at position 0. An error is want of memory.
+/// where `unique`. They stand in one list, at position 0. The rows of a list that nothing else shares are moved, and not
+/// copied. An error is want of memory.
 pub fn arrange(
     alloc: Global,
     parts: Parts,
@@ -94,7 +108,7 @@ pub fn arrange(
 ) -> Result<Built, AllocError>
     ensures { IfOk result (λ built. built ≡ record { lists = arranged unique keys.now (rows_of parts) ∷ []; columns = [] }) }
 {
-    let mut rows = joined(alloc, parts.items())?;
+    let mut rows = joined(alloc, parts)?;
     arrange_rows(&mut rows, unique, keys.items())?;
     indexed(alloc, one_list(alloc, rows)?, Vec::new(alloc))
 }

@@ -1,6 +1,6 @@
-use Rattle.std.proofs.Common.{◌≡◌, map, take}
+use Rattle.std.proofs.Common.{◌≡◌, map}
 use Rattle.hash_join.specs.Table.{rows_of}
 use Rattle.hash_join.proofs.making.joined.Given as goal
 
-abbrev pub invariant-loop-rows : goal.invariant-loop-rows
-invariant-loop-rows l = l.out.items ≡ rows_of (map (λ x. x.value) (take l.rows-index l.parts))
+abbrev pub invariant-loop-part : goal.invariant-loop-part
+invariant-loop-part l = l.out.items ≡ rows_of (map (λ x. x.value) l.yielded)
