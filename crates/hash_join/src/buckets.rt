@@ -95,11 +95,11 @@ fn one_bucket(alloc: Global, places: Vec<RowPlace>) -> Result<Vec<Vec<RowPlace>>
     Ok(buckets)
 }
 
-// How many buckets are made for some places.
+// How many buckets are made for some places: two for each, so that most hold one key at most.
 fn bucket_count(index: &[RowPlace]) -> usize
     ensures { 0 < result }
 {
-    index.len().max(1)
+    index.len().saturating_mul(2).max(1)
 }
 
 // The places of all rows in as many buckets, each in order.
