@@ -67,9 +67,9 @@ one_stored relation table a b h k =
     record { items = is; index = found }) (sym items)
     (one_index relation.index table (table_blocks a) a.index b.index h.index index)
 
-pub one_database : (relations : List Relation) (db : List Table) (tables others : List StoredTable) →
-    length db ≡ length relations → AreStored relations db tables → AreStored relations db others →
-    tables ≡ others
+pub one_database : (relations : List Relation) (db : List Table)
+    (tables others : List StoredTable) → length db ≡ length relations →
+    AreStored relations db tables → AreStored relations db others → tables ≡ others
 one_database relations db tables others count h k =
     same_places tables others (h.count ∙ sym k.count) (λ i a b at_a at_b.
     let low = slice_get_within tables i a at_a in
@@ -88,7 +88,8 @@ module _ (relations : List Relation) (tables : List StoredTable)
   one_count q a b known h k = same_places a b (h.each ∙ sym k.each) (λ v s t at_s at_t.
       let low = slice_get_within a v s at_s in
       let var = there q.vars v (omega (arith, low, h.each)) in
-      let named = at_place (λ (u : Var). u.relation < length relations) q.vars v var.0 known var.1 in
+      let named =
+      at_place (λ (u : Var). u.relation < length relations) q.vars v var.0 known var.1 in
       let relation = there relations var.0.relation named in
       let table = there tables var.0.relation (omega (arith, named, count)) in
       h.are v var.0 relation.0 table.0 s var.1 relation.1 table.1 at_s ∙

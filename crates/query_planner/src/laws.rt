@@ -1,5 +1,5 @@
-//! What holds of the bounds of every query, of every tree that fits what is counted of stored tables,
-//! and of the list of best plans.
+//! What holds of the bounds of every query, of every tree that fits what is counted of stored
+//! tables, and of the list of best plans.
 ghost use Rattle.std.specs.Prelude.{◌≡◌, ◌==◌, ℕ, Bool, List, All, length};
 ghost use Rattle.std.specs.List.{AllByRecursion};
 ghost use Rattle.rows.specs.declared.plain.Relation.{Relation};
@@ -35,9 +35,9 @@ pub fn plan_laws()
     ensures planned { (relations : List Relation) (db : List Table) (tables : List StoredTable) (q : Question) (m : Method) (p : Planned) → IsResolved db q → MayStore relations db → AreStored relations db tables → IsPlanOf relations tables m q p → tree_answer db q (read_by db tables q) p.tree ≡ meaning db q }
 {}
 
-/// A database with a table for each relation is stored in one way, what is counted of its tables for
-/// a query that may be planned is one list, and so such queries have one list of best plans under a
-/// method, whichever stored form they were made over.
+/// A database with a table for each relation is stored in one way, and what is counted of its
+/// tables for a query that may be planned is one list. So such queries have one list of best plans
+/// under a method.
 pub fn one_plan_list()
     ensures stored { (relations : List Relation) (db : List Table)
         (tables others : List StoredTable) → length db ≡ length relations →

@@ -26,7 +26,8 @@ test_typed : (columns : ℕ → ℕ → Option LayoutColumn) (test : Option Expr
 test_typed columns None h = tt
 test_typed columns (Some t) h = is_typed (type_of t columns) h
 
-planned : (catalog : List Relation) (q : Question) → MayAsk (map heading_of catalog) q → MayPlan catalog q
+-- a query that may be asked of the relations may be planned
+pub planned : (catalog : List Relation) (q : Question) → MayAsk (map heading_of catalog) q → MayPlan catalog q
 planned catalog q m = record {
   few = m.few;
   there = subst (λ (n : ℕ). All (λ v. v.relation < n) q.vars) (length-map catalog heading_of) m.relations;

@@ -12,3 +12,4 @@ pub mod Caused
 pub mod OneJob
 pub mod Refusals
 pub mod Counts
+pub mod OneText

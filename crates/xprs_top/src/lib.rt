@@ -7,6 +7,7 @@ mod explaining;
 mod fault;
 mod goal;
 mod input;
+mod laws;
 mod made;
 mod making;
 mod piece;
@@ -21,4 +22,5 @@ mod words;
 
 pub use call::answer_alone;
 pub use fault::pour_fault;
+pub use laws::one_text;
 pub use status::{Outcome, Refused, Status};
