@@ -4,9 +4,8 @@
 mod answering;
 mod stats;
 mod tables;
+#[cfg(test)]
+mod tests;
 
 pub use answering::{AnswerList, answer_script};
 pub use stats::kept_stats;
-
-/// No memory is left.
-pub type NoMemory = std::alloc::AllocError;
