@@ -127,15 +127,7 @@ database_fits db all = database_rows db (recursion_from_All IsTable db all)
 abbrev kept_at : Option (Bor Kept) → Option Kept
 kept_at kept = option_map (λ k. k.now) kept
 
-pub has_bounds : (columns : List (List LayoutColumn)) (q : Question) (kept : Option (Bor Kept)) → IfSome kept (λ k. FitsTargets columns q k.now) → IfSome kept (λ k. length k.now.bounds ≡ length k.now.columns)
-has_bounds columns q None fits = tt
-has_bounds columns q (Some k) fits = fits.each
-
 pub fit_next : (columns : List (List LayoutColumn)) (db : List Table) (q : Question) (kept : Option (Bor Kept)) → FitColumns columns db → IfSome kept (λ k. FitsTargets columns q k.now) →
     FitColumns (columns_behind columns (kept_at kept)) (tables_behind db (kept_at kept) (meaning db q))
 fit_next columns db q None fit fits = fit
 fit_next columns db q (Some k) fit fits = fit_behind columns db q k.now fit fits
-
-pub fits_borrowed : (columns : List (List LayoutColumn)) (q : Question) (kept : Option (Bor Kept)) → IfSome (kept_at kept) (FitsTargets columns q) → IfSome kept (λ k. FitsTargets columns q k.now)
-fits_borrowed columns q None fits = tt
-fits_borrowed columns q (Some k) fits = fits

@@ -3,7 +3,9 @@ ghost use Rattle.std.specs.Prelude.{◌≡◌, All, IfOk, IfSome, OnOk, length, 
 ghost use Rattle.std.specs.Option.{option_map};
 ghost use Rattle.rel_meaning.specs.Expression.{question_of};
 ghost use Rattle.rel_meaning.specs.Meaning.{meaning, IsTable};
-ghost use Rattle.kept_answers.specs.KeptAnswers.{answers_of, columns_behind, database_columns, kept_of, tables_behind, FitColumns, FitKept, FitQueries, FitsTargets, IsResolvedIn};
+ghost use Rattle.kept_answers.specs.KeptAnswers.{answers_of, columns_behind, database_columns};
+ghost use Rattle.kept_answers.specs.KeptAnswers.{kept_of, tables_behind, FitColumns, FitKept};
+ghost use Rattle.kept_answers.specs.KeptAnswers.{FitQueries, FitsTargets, IsResolvedIn};
 
 use crate::tables::{Relations, add_answer, relations_of};
 use kept_relations::{Kept, KeptList};
@@ -35,8 +37,10 @@ fn keep_answer(
     rows: &Rows,
 ) -> Result<(), AllocError>
     requires { IfSome kept (λ k. length k.now.bounds ≡ length k.now.columns) }
-    ensures tables { OnOk result (relations.new.tables ≡ tables_behind relations.old.tables (option_map (λ k. k.now) kept.entry) rows.now) }
-    ensures columns { OnOk result (relations.new.columns.items ≡ columns_behind relations.old.columns.items (option_map (λ k. k.now) kept.entry)) }
+    ensures tables { OnOk result (relations.new.tables
+        ≡ tables_behind relations.old.tables (option_map (λ k. k.now) kept.entry) rows.now) }
+    ensures columns { OnOk result (relations.new.columns.items
+        ≡ columns_behind relations.old.columns.items (option_map (λ k. k.now) kept.entry)) }
 {
     match kept {
         None => Ok(()),
@@ -44,7 +48,7 @@ fn keep_answer(
     }
 }
 
-// The answer of a statement over the tables so far. It is one of them from then on where it is kept.
+// The answer of a statement over the tables so far. From then on it is one of them, if it is kept.
 fn answer_next(
     alloc: Global,
     relations: &mut Relations,
@@ -52,11 +56,16 @@ fn answer_next(
     kept: Option<&Kept>,
 ) -> Result<Rows, AllocError>
     requires resolved { IsResolvedIn relations.old.columns.items (question_of query.now) }
-    requires kept { IfSome kept (λ k. FitsTargets relations.old.columns.items (question_of query.now) k.now) }
+    requires kept { IfSome kept (λ k.
+        FitsTargets relations.old.columns.items (question_of query.now) k.now) }
     requires fit { FitColumns relations.old.columns.items relations.old.tables }
-    ensures rows { IfOk result (λ rows. rows ≡ meaning relations.old.tables (question_of query.now)) }
-    ensures tables { OnOk result (relations.new.tables ≡ tables_behind relations.old.tables (option_map (λ k. k.now) kept.entry) (meaning relations.old.tables (question_of query.now))) }
-    ensures columns { OnOk result (relations.new.columns.items ≡ columns_behind relations.old.columns.items (option_map (λ k. k.now) kept.entry)) }
+    ensures rows { IfOk result (λ rows.
+        rows ≡ meaning relations.old.tables (question_of query.now)) }
+    ensures tables { OnOk result (relations.new.tables
+        ≡ tables_behind relations.old.tables (option_map (λ k. k.now) kept.entry)
+        (meaning relations.old.tables (question_of query.now))) }
+    ensures columns { OnOk result (relations.new.columns.items
+        ≡ columns_behind relations.old.columns.items (option_map (λ k. k.now) kept.entry)) }
     ensures fit { OnOk result (FitColumns relations.new.columns.items relations.new.tables) }
 {
     let rows = answer_over(
@@ -78,7 +87,8 @@ fn answer_all(
 ) -> Result<Vec<Rows>, AllocError>
     requires queries { FitQueries relations.old.columns.items kept.now 0 (map question_of queries.now) }
     requires fit { FitColumns relations.old.columns.items relations.old.tables }
-    ensures { IfOk result (λ answers. answers.items ≡ answers_of relations.old.tables kept.now (map question_of queries.now)) }
+    ensures { IfOk result (λ answers.
+        answers.items ≡ answers_of relations.old.tables kept.now (map question_of queries.now)) }
 {
     let mut answers = Vec::new(alloc);
     for (statement, query) in queries.iter().enumerate() {
@@ -87,10 +97,11 @@ fn answer_all(
     Ok(answers)
 }
 
-/// The rows of each query of a script: its relational meaning over the tables, and over the answers that the statements
-/// before it keep, which stand behind the tables in the order of their statements. The queries are resolved for these
-/// relations and have no fold. The kept relations are of other statements each, in their order, and have a column for each
-/// target of their query, with its type and bound. Each table's rows are of its columns. An `Err` is want of memory.
+/// The rows of each query of a script: its relational meaning over the tables, and over the answers
+/// that the statements before it keep, which stand behind the tables in the order of their
+/// statements. The queries are resolved for these relations and have no fold. The kept relations
+/// are of other statements each, in their order, and have a column for each target of their query,
+/// with its type and bound. Each table's rows are of its columns. An `Err` is want of memory.
 pub fn answer_script(
     alloc: Global,
     db: &Database,
@@ -99,7 +110,8 @@ pub fn answer_script(
 ) -> Result<AnswerList, AllocError>
     requires queries { FitKept (database_columns db.now) kept.now (map question_of queries.now) }
     requires tables { All IsTable db.now }
-    ensures { IfOk result (λ answers. answers ≡ answers_of db.now kept.now (map question_of queries.now)) }
+    ensures { IfOk result (λ answers.
+        answers ≡ answers_of db.now kept.now (map question_of queries.now)) }
 {
     let mut relations = relations_of(alloc, db)?;
     let answers = answer_all(alloc, &mut relations, queries.items(), kept.items())?;

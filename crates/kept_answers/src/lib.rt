@@ -1,4 +1,5 @@
-//! The answers of the statements of a script, each over the tables and over what earlier statements keep.
+//! The answers of the statements of a script, each over the tables and over what earlier
+//! statements keep.
 #![tactic(auto)]
 
 mod answering;

@@ -78,8 +78,10 @@ pub(crate) fn add_answer(
     rows: &Rows,
 ) -> Result<(), AllocError>
     requires { length kept.now.bounds ≡ length kept.now.columns }
-    ensures tables { OnOk result (relations.new.tables ≡ tables_behind relations.old.tables (Some kept.now) rows.now) }
-    ensures columns { OnOk result (relations.new.columns.items ≡ columns_behind relations.old.columns.items (Some kept.now)) }
+    ensures tables { OnOk result (
+        relations.new.tables ≡ tables_behind relations.old.tables (Some kept.now) rows.now) }
+    ensures columns { OnOk result (relations.new.columns.items
+        ≡ columns_behind relations.old.columns.items (Some kept.now)) }
 {
     let table = Table {
         columns: kept.columns.copy(alloc)?,

@@ -11,7 +11,13 @@ use std::alloc::{AllocError, Global};
 use std::test::Fail;
 
 fn query(alloc: Global, vars: Vec<Var>, expr: Expr) -> Result<Query, AllocError>
-    ensures { IfOk result (λ q. q ≡ record { vars = vars.items; targets = record { name = []; expr = expr } ∷ []; test = None; unique = false; keys = [] }) }
+    ensures { IfOk result (λ q. q ≡ record {
+      vars = vars.items;
+      targets = record { name = []; expr = expr } ∷ [];
+      test = None;
+      unique = false;
+      keys = [];
+    }) }
 {
     let mut targets = Vec::new(alloc);
     targets.push(Target {

@@ -7,4 +7,5 @@ use Rattle.rows.specs.declared.plain.LayoutColumn.{LayoutColumn}
 abbrev pub kept_columns : List Column → List ℕ → List LayoutColumn
 kept_columns [] bounds = []
 kept_columns (column ∷ columns) [] = []
-kept_columns (column ∷ columns) (bound ∷ bounds) = record { col_type = column.col_type; bound = bound } ∷ kept_columns columns bounds
+kept_columns (column ∷ columns) (bound ∷ bounds) =
+    record { col_type = column.col_type; bound = bound } ∷ kept_columns columns bounds

@@ -9,8 +9,9 @@ use std::alloc::Global;
 /// A number for each column.
 pub type BoundNumberList = Sequence<u64>;
 
-/// A relation that a statement keeps: its name, the number of the statement, counted from 0, its columns, and for
-/// each of them the greatest size of an integer without its sign, and 0 for another type.
+/// A relation that a statement keeps: its name, the number of the statement, counted from 0, its
+/// columns, and for each of them the greatest size of an integer without its sign, and 0 for
+/// another type.
 #[derive(Debug, Drop)]
 pub struct Kept {
     pub name: Text,

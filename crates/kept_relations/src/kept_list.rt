@@ -1,4 +1,5 @@
-ghost use Rattle.std.specs.Prelude.{◌≡◌, [], ◌∷◌, ◌++◌, ◌<◌, ◌==◌, IfSome, OnErr, OnOk, length, slice_get};
+ghost use Rattle.std.specs.Prelude.{◌≡◌, [], ◌∷◌, ◌++◌, ◌<◌, ◌==◌};
+ghost use Rattle.std.specs.Prelude.{IfSome, OnErr, OnOk, length, slice_get};
 ghost use Rattle.kept_relations.specs.KeptNames.{place_named};
 
 use crate::{Kept, NoMemory};
@@ -47,8 +48,8 @@ impl KeptList {
         }
     }
 
-    /// Puts a relation behind the others, none of which has its name. An `Err` changes nothing: there is no memory, or
-    /// no number for one more.
+    /// Puts a relation behind the others, none of which has its name. An `Err` changes nothing:
+    /// there is no memory, or no number for one more.
     pub fn keep(&mut self, kept: Kept) -> Result<(), NoMemory>
         requires { place_named kept.name self.old ≡ None }
         ensures ok { OnOk result (self.new ≡ self.old ++ kept ∷ []) }
@@ -60,7 +61,8 @@ impl KeptList {
         Ok(self.items.push(kept)?)
     }
 
-    /// The place of the relation of that name, and `None` exactly where there is none. It takes no memory.
+    /// The place of the relation of that name, and `None` exactly where there is none. It takes
+    /// no memory.
     pub fn find(&self, name: &[u8]) -> Option<u32>
         ensures place { result ≡ place_named name.now self.now }
         ensures within { IfSome result (λ place. place < length self.now) }
