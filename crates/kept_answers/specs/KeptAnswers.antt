@@ -49,7 +49,8 @@ columns_kept kept = kept_columns kept.columns kept.bounds
 -- a kept relation has a column for each target of its query, with the target's type and bound
 pub record FitsTargets (columns : List (List LayoutColumn)) (q : Question) (kept : Kept) : Type 0 where
   pub each : length kept.bounds ≡ length kept.columns
-  pub types : map (λ target. type_of target.expr (column_type (layout_in columns q))) q.targets ≡ map (λ c. Some c) (columns_kept kept)
+  pub types : map (λ target. type_of target.expr (column_type (layout_in columns q))) q.targets
+      ≡ map (λ c. Some c) (columns_kept kept)
 
 -- the columns of the relations behind a statement
 abbrev pub columns_behind : List (List LayoutColumn) → Option Kept → List (List LayoutColumn)
@@ -79,9 +80,9 @@ abbrev pub AscendFrom : ℕ → List Kept → Type 0
 AscendFrom statement [] = ⊤
 AscendFrom statement (kept ∷ others) = (statement ≤ kept.statement) × AscendFrom (kept.statement + 1) others
 
--- Kept relations of the queries of a script over relations of these columns: each of another statement, in the order of
--- the statements, and with the columns of its query. Behind the other relations they have the numbers that follow, and
--- only the queries behind that of a kept relation name it.
+-- Kept relations of the queries of a script over relations of these columns: each of another
+-- statement, in the order of the statements, and with the columns of its query. Behind the other
+-- relations they have the numbers that follow, and only later queries name a kept relation.
 pub record FitKept (columns : List (List LayoutColumn)) (kept : List Kept) (qs : List Question) : Type 0 where
   pub ascending : AscendFrom 0 kept
   pub within : All (λ k. k.statement < length qs) kept
