@@ -1,0 +1,12 @@
+//! The answers of the statements of a script, each over the tables and over what earlier
+//! statements keep.
+#![tactic(auto)]
+
+mod answering;
+mod stats;
+mod tables;
+#[cfg(test)]
+mod tests;
+
+pub use answering::{AnswerList, answer_script};
+pub use stats::kept_stats;

@@ -1,0 +1,2 @@
+pub mod KeptColumns
+pub mod KeptNames
