@@ -1,5 +1,5 @@
 -- A pool that one caller has.
-use Rattle.std.proofs.Common.{◌≡◌, ℕ, ◌<◌, ◌≤◌, ◌^◌, List, [], ◌∷◌, ◌++◌, length, map, Option, Some, None, Result, refl, sym, ap, subst, ◌∙◌, arith, append_assoc}
+use Rattle.std.proofs.Common.{◌≡◌, ℕ, ◌<◌, ◌≤◌, ◌^◌, List, [], ◌∷◌, ◌++◌, length, map, Option, Some, None, Result, Ok, Err, true, ◌≢◌, refl, sym, ap, subst, ◌∙◌, arith, append_assoc}
 use mathlib.Core.Logic.{dite}
 use native.Mathlib.Decide.{ℕ_discrete}
 use Rattle.std.specs.Prelude.{IfOk, IfErr, option_map, slice_get}
@@ -8,7 +8,8 @@ use Rattle.std.specs.declared.sync.Arc.{Arc}
 use Rattle.std.specs.declared.alloc.Global.{Global}
 use Rattle.heap_page.specs.declared.page.Page.{Page}
 use Rattle.heap_page.specs.declared.errors.FetchErr.{FetchErr}
-use Rattle.heap_page.specs.Sources.{FetchCause, IsGiven}
+use Rattle.heap_page.specs.declared.errors.FetchErr.TheVariants.{DriveFault, BadPage, NoMemory}
+use Rattle.heap_page.specs.Sources.{AreCalm, FetchCause, IsGiven}
 use Rattle.buffer_pool.specs.Fetched.{IsFetched}
 use Rattle.buffer_pool.specs.Images.{image_on}
 use Rattle.buffer_pool.proofs.Fetching.{caused, given}
@@ -19,7 +20,7 @@ use Rattle.std.proofs.lemmas.Option.{get_or_from_slice_get, slice_get-map, slice
 use Rattle.xp_outside.specs.declared.drive.Drive.{Ghosts}
 use Rattle.heap_page.specs.declared.map.FileMap.{FileMap}
 use Rattle.heap_page.specs.Maps.{HasPage, IsMap, needs_of, pages_of_all, shares}
-use Rattle.heap_page.specs.Stores.{AreRead, HaveRoom, IsRead}
+use Rattle.heap_page.specs.Stores.{AreRead, HaveRoom, IsRead, fetch_fault}
 use Rattle.buffer_pool.specs.Lone.{AreNew, AreOn, AreShards, IsEmpty, count_at, drives_in, drives_of, map_of}
 use Rattle.buffer_pool.specs.Places.{IsPlaced}
 use Rattle.buffer_pool.specs.Shards.{Fits}
@@ -52,6 +53,15 @@ place_same files file page a b has one other = λ i. record {
   address = (one.address ∙ sym other.address) i;
   kind = (sym (one.kind has.0 has.1) ∙ other.kind has.0 has.1) i;
 }
+
+-- a fault is that of the place's drive
+fault_here : (told : Option (List (List ℕ))) (place : Place) (file page before now : ℕ) (r : Result (Arc Page Global) FetchErr) → IsFetched told place file page before now r → (e : ℕ) → fetch_fault r ≡ Some e → e ≡ place.drive
+fault_here told place file page before now (Ok found) h e is = absurd (none_is e is)
+fault_here told place file page before now (Err (DriveFault d)) h e is = sym (some_is_number d e is) ∙ h.0 where
+  some_is_number : (x y : ℕ) → Some x ≡ Some y → x ≡ y
+  some_is_number x y k = cc
+fault_here told place file page before now (Err (BadPage bad)) h e is = absurd (none_is e is)
+fault_here told place file page before now (Err NoMemory) h e is = absurd (none_is e is)
 
 module _ {D : Type 0} {g : Ghosts D} where
   -- one more drive has its shard
@@ -109,6 +119,16 @@ module _ {D : Type 0} {g : Ghosts D} where
       called hit (Some was) None at here = let is = item_at new e (omega (arith, slice_get_within old e was at, on.len)) in absurd (none_is is.0 (sym here ∙ is.1))
       called hit (Some was) (Some is) at here = (on.called was is (subst (λ k. slice_get old k ≡ Some was) hit at) (subst (λ k. slice_get new k ≡ Some is) hit here)).drive.count
 
+  -- what was answered of one drive stands for the others
+  pub calm_on : (d : ℕ) (old new : List (Shard D g)) (fault : Option ℕ) → AreOn d old new → (fault ≡ None → count_at new d ≡ count_at old d) → ((e : ℕ) → fault ≡ Some e → e ≡ d) → (e : ℕ) → fault ≢ Some e → count_at new e ≡ count_at old e
+  calm_on d old new fault on quiet only e other = dite (ℕ_discrete e d)
+      (λ hit. subst (λ k. count_at new k ≡ count_at old k) (sym hit) (quiet (by hit fault refl)))
+      (λ miss. ap (λ (o : Option (Shard D g)). option_map_or (λ (s : Shard D g). g.faults s.drive) o 0) (on.others e miss))
+    where
+      by : e ≡ d → (f : Option ℕ) → fault ≡ f → fault ≡ None
+      by hit None is = is
+      by hit (Some k) is = absurd (other (is ∙ ap Some (only k is ∙ sym hit)))
+
   -- what a pool answers
   pub answered : (mounted : Mounted D) (old new after : List (Shard D g)) (file page : ℕ) (place : Place) (r : Result (Arc Page Global) FetchErr) → after ≡ new → AreShards mounted old → IsPlaced (map_of mounted) file page place → HasPage (map_of mounted).files.items file page →
       ((named : D) (shard : Shard D g) → slice_get old place.drive ≡ Some shard → Fits named shard → IsFetched (g.pages named) place file page (count_at old place.drive) (count_at new place.drive) r) →
@@ -122,6 +142,18 @@ module _ {D : Type 0} {g : Ghosts D} where
         subst (λ (shards : List (Shard D g)). IfErr r (FetchCause (map_of mounted).files.items (image_on g (map_of mounted) (drives_of mounted)) (map_of mounted).drives (count_at old) (count_at shards) file page)) (sym is)
             (caused g (map_of mounted) (drives_of mounted) file page place named.0 (count_at old) (count_at new) placed has named.1 r got),
       )
+
+  -- and no other drive fails
+  pub calm : (mounted : Mounted D) (old new after : List (Shard D g)) (file page : ℕ) (place : Place) (r : Result (Arc Page Global) FetchErr) → after ≡ new → AreShards mounted old → IsPlaced (map_of mounted) file page place → AreOn place.drive old new →
+      (fetch_fault r ≡ None → count_at new place.drive ≡ count_at old place.drive) →
+      ((named : D) (shard : Shard D g) → slice_get old place.drive ≡ Some shard → Fits named shard → IsFetched (g.pages named) place file page (count_at old place.drive) (count_at new place.drive) r) →
+      AreCalm true (fetch_fault r) (count_at old) (count_at after)
+  calm mounted old new after file page place r is sound placed on quiet fetched = λ _ d other.
+      let named = item_at (drives_of mounted) place.drive (omega (arith, sound.drives, placed.on_drive)) in
+      let shard = item_at old place.drive (omega (arith, sound.len, placed.on_drive)) in
+      let got = fetched named.0 shard.0 shard.1 (sound.fits place.drive named.0 shard.0 named.1 shard.1) in
+      ap (λ (shards : List (Shard D g)). count_at shards d) is
+      ∙ calm_on place.drive old new (fetch_fault r) on quiet (fault_here (g.pages named.0) place file page (count_at old place.drive) (count_at new place.drive) r got) d other
 
 -- the drives that the shards have are those that were read
 pub unloaded : {D : Type 0} (g : Ghosts D) (mounted : Mounted D) (shards : List (Shard D g)) (drives : List D) → AreShards mounted shards → drives ≡ drives_in shards → AreRead g (drives_of mounted) drives

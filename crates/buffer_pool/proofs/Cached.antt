@@ -60,7 +60,7 @@ told_bad told kind file page address es e h = by (lookup (nat_eq address) es) re
   by None is (BadPage bad) b = absurd cc
   by None is NoMemory b = tt
   by (Some cached) is (DriveFault d) b = tt
-  by (Some cached) is (BadPage bad) b = (b.0, b.1, λ pages t. (arc_value cached, told_found told address es cached h (ap (option_map arc_value) (sym is)) pages t, b.2))
+  by (Some cached) is (BadPage bad) b = (b.0, b.1, (arc_value cached, told_found told address es cached h (ap (option_map arc_value) (sym is)), b.2))
   by (Some cached) is NoMemory b = tt
 
 -- a cached page that is made the first was used

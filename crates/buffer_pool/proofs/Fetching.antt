@@ -15,7 +15,7 @@ use Rattle.heap_page.specs.declared.errors.FetchErr.{FetchErr}
 use Rattle.heap_page.specs.declared.errors.FetchErr.TheVariants.{DriveFault, BadPage, NoMemory}
 use Rattle.heap_page.specs.Maps.{HasPage, address_of}
 use Rattle.heap_page.specs.Pages.{head_fault}
-use Rattle.heap_page.specs.Sources.{FetchCause, IsGiven, head_fault_in}
+use Rattle.heap_page.specs.Sources.{FetchCause, IsGiven, IsRefused, head_fault_in}
 use Rattle.buffer_pool.specs.Counts.{IsCounted}
 use Rattle.buffer_pool.specs.Fetched.{IsFetched, error_of}
 use Rattle.buffer_pool.specs.Images.{all_told, image_on, page_at}
@@ -73,18 +73,15 @@ module _ {D : Type 0} (g : Ghosts D) where
   head_at files file page place bytes placed has =
       ap (option_and_then (λ (f : PageFile). head_fault f.kind file page bytes)) has.1 ∙ ap (λ (k : FileKind). head_fault k file page bytes) (placed.kind has.0 has.1)
 
-  -- where a pool tells an image, a told page that breaks a rule is the image's
+  -- a page that breaks a rule was refused, and where a pool tells an image, it is the image's
   bad_at : (files : FileMap) (drives : List D) (file page : ℕ) (place : Place) (named : D) (rule : ℕ) → IsPlaced files file page place → HasPage files.files.items file page → slice_get drives place.drive ≡ Some named →
-      ((pages : List (List ℕ)) → g.pages named ≡ Some pages → (bytes : List ℕ) × (slice_get pages place.address ≡ Some bytes) × (head_fault place.kind file page bytes ≡ Some rule)) →
-      IfSome (image_on g files drives) (λ pages. head_fault_in files.files.items file page (pages file page) ≡ Some rule)
-  bad_at files drives file page place named rule placed has at bad = by (all_told (map g.pages drives)) refl where
-    by : (all : Option (List (List (List ℕ)))) → all_told (map g.pages drives) ≡ all → IfSome (option_map (page_at files) all) (λ pages. head_fault_in files.files.items file page (pages file page) ≡ Some rule)
-    by None is = tt
-    by (Some contents) is =
-        let broken = bad (slice_index_or contents place.drive []) (told_drive drives place.drive named contents at is) in
-        head_at files file page place (page_at files contents file page) placed has
-        ∙ ap (head_fault place.kind file page) (page_is files contents file page place broken.0 placed broken.1)
-        ∙ broken.2
+      ((bytes : List ℕ) × IsTold (g.pages named) place.address bytes × (head_fault place.kind file page bytes ≡ Some rule)) →
+      IsRefused files.files.items (image_on g files drives) file page rule
+  bad_at files drives file page place named rule placed has at bad = record {
+    bytes = bad.0;
+    head = head_at files file page place bad.0 placed has ∙ bad.2;
+    told = image_at files drives file page place named bad.0 placed at bad.1;
+  }
 
   module _ (files : FileMap) (drives : List D) (file page : ℕ) (place : Place) (named : D) (before now : ℕ → ℕ) (placed : IsPlaced files file page place) (has : HasPage files.files.items file page)
       (at : slice_get drives place.drive ≡ Some named) where

@@ -9,6 +9,7 @@ use Rattle.heap_page.specs.declared.head.FileKind.{FileKind}
 use Rattle.heap_page.specs.declared.errors.FetchErr.{FetchErr}
 use Rattle.heap_page.specs.declared.errors.FetchErr.TheVariants.{DriveFault, BadPage, NoMemory}
 use Rattle.heap_page.specs.Pages.{head_fault}
+use Rattle.buffer_pool.specs.Told.{IsTold}
 
 -- the page used last is the one at this address, and has these bytes
 abbrev pub BeginsWith : ℕ → List ℕ → List (ℕ × Arc Page Global) → Type 0
@@ -33,9 +34,9 @@ IsCachedBad kind file page (Some cached) e = IsBad kind file page (arc_value cac
 abbrev pub IsAnswer : FileKind → ℕ → ℕ → List ℕ → Result (Arc Page Global) FetchErr → Type 0
 IsAnswer kind file page bytes result = MatchResult result (λ found. (arc_value found ≡ bytes) × (head_fault kind file page bytes ≡ None)) (IsBad kind file page bytes)
 
--- where pages are told, the one at this address breaks the rule of the error first
+-- a page breaks the rule of the error first, and where pages are told, it is the one at this address
 abbrev pub IsToldBad : Option (List (List ℕ)) → FileKind → ℕ → ℕ → ℕ → FetchErr → Type 0
 IsToldBad told kind file page address (DriveFault d) = ⊤
 IsToldBad told kind file page address (BadPage bad) =
-    (bad.file ≡ file) × (bad.page ≡ page) × ((pages : List (List ℕ)) → told ≡ Some pages → (bytes : List ℕ) × (slice_get pages address ≡ Some bytes) × (head_fault kind file page bytes ≡ Some bad.rule))
+    (bad.file ≡ file) × (bad.page ≡ page) × ((bytes : List ℕ) × IsTold told address bytes × (head_fault kind file page bytes ≡ Some bad.rule))
 IsToldBad told kind file page address NoMemory = ⊤

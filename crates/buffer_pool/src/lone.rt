@@ -1,10 +1,10 @@
 //! A pool for one caller, who waits for nobody.
-ghost use Rattle.std.specs.Prelude.{◌≡◌, ◌≢◌, ◌<◌, ◌≤◌, ℕ, [], Some, IfOk, IfErr, length, slice_get, vec_len, vec_capacity};
+ghost use Rattle.std.specs.Prelude.{◌≡◌, ◌≢◌, ◌<◌, ◌≤◌, ℕ, [], None, Some, true, IfOk, IfErr, length, slice_get, vec_len, vec_capacity};
 ghost use Rattle.std.specs.List.{All};
 ghost use Rattle.std.specs.Arc.{arc_value};
 ghost use Rattle.heap_page.specs.Maps.{HasPage, IsMap, drive_of};
-ghost use Rattle.heap_page.specs.Sources.{FetchCause, IsGiven};
-ghost use Rattle.heap_page.specs.Stores.{AreRead, HaveRoom};
+ghost use Rattle.heap_page.specs.Sources.{AreCalm, FetchCause, IsGiven};
+ghost use Rattle.heap_page.specs.Stores.{AreRead, HaveRoom, fetch_fault};
 ghost use Rattle.buffer_pool.specs.Fetched.{IsFetched};
 ghost use Rattle.buffer_pool.specs.Images.{image_on};
 ghost use Rattle.buffer_pool.specs.Lone.{AreNew, AreOn, AreShards, IsEmptyCache, IsTurnAt, count_at, drives_in, drives_of, frames_of, map_of};
@@ -78,6 +78,7 @@ fn fetch_from<D: Drive>(
     requires within { (shard : _) → slice_get shards.old place.drive ≡ Some shard → place.address < D.size shard.drive }
     ensures on { AreOn place.drive shards.old shards.new }
     ensures turn { IsTurnAt place file page shards.old shards.new result }
+    ensures quiet { fetch_fault result ≡ None → count_at shards.new place.drive ≡ count_at shards.old place.drive }
     ensures fetched { (named : D) (shard : _) → slice_get shards.old place.drive ≡ Some shard → Fits named shard → IsFetched (D.pages named) place file page (count_at shards.old place.drive) (count_at shards.new place.drive) result }
 {
     let shard = &mut shards[place.drive as usize];
@@ -153,6 +154,8 @@ impl<D: Drive> PageSource for LonePool<D> {
 
     ghost faults = { λ pool d. count_at pool.shards.items d };
 
+    ghost lone = { λ _. true };
+
     /// The page, as for every source. A page that the pool has calls no drive and is the answer, where its head breaks
     /// no rule. After an Ok it is the page used last of its drive; after an error the same pages are cached.
     fn fetch(&mut self, alloc: Global, file: u32, page: u32) -> Result<Arc<Page>, FetchErr>
@@ -161,6 +164,7 @@ impl<D: Drive> PageSource for LonePool<D> {
         // As every source.
         ensures whole { self.new.mounted ≡ self.old.mounted }
         ensures counts { (d : ℕ) → count_at self.old.shards.items d ≤ count_at self.new.shards.items d }
+        ensures quiet { AreCalm true (fetch_fault result) (count_at self.old.shards.items) (count_at self.new.shards.items) }
         ensures ok { IfOk result (λ found. IsGiven (map_of self.old.mounted).files.items (image_on D.Drive (map_of self.old.mounted) (drives_of self.old.mounted)) file page (arc_value found)) }
         ensures err { IfErr result (FetchCause (map_of self.old.mounted).files.items (image_on D.Drive (map_of self.old.mounted) (drives_of self.old.mounted)) (map_of self.old.mounted).drives (count_at self.old.shards.items) (count_at self.new.shards.items) file page) }
 

@@ -1,6 +1,7 @@
 //! Reading a page of a drive.
-ghost use Rattle.std.specs.Prelude.{◌≡◌, ◌<◌, ◌≤◌, IfOk, IfErr, OnOk, ℕ};
-ghost use Rattle.heap_page.specs.Stores.{IsRead};
+ghost use Rattle.std.specs.Prelude.{◌≡◌, ◌<◌, ◌≤◌, IfOk, IfErr, None, OnOk, ℕ};
+ghost use Rattle.heap_page.specs.Stores.{IsRead, fetch_fault};
+ghost use Rattle.xp_outside.specs.Outside.{Stands};
 ghost use Rattle.buffer_pool.specs.Counts.{LAST, Covers, IsFailure};
 ghost use Rattle.buffer_pool.specs.Told.{IsTold};
 
@@ -25,6 +26,7 @@ pub(crate) fn read_page<D: Drive>(
     ensures told { IfOk result (λ page. IsTold (D.pages drive.old) address page) }
     ensures covers { (named : ℕ) → Covers named counter.old (D.faults drive.old) → Covers named counter.new (D.faults drive.new) }
     ensures ok { OnOk result (counter.new ≡ counter.old) }
+    ensures quiet { fetch_fault result ≡ None → Stands (D.faults drive.old) (D.faults drive.new) }
     ensures err { IfErr result (IsFailure (D.faults drive.old) (D.faults drive.new) counter.old counter.new) }
 {
     let mut bytes = vec![in alloc; 0u8; PAGE]?;

@@ -3,7 +3,8 @@ ghost use Rattle.std.specs.Prelude.{◌≡◌, ◌<◌, ◌≤◌, ℕ, IfOk, If
 ghost use Rattle.std.specs.Arc.{arc_value};
 ghost use Rattle.std.specs.Map.{lookup};
 ghost use Rattle.heap_page.specs.Pages.{head_fault};
-ghost use Rattle.heap_page.specs.Stores.{IsRead};
+ghost use Rattle.heap_page.specs.Stores.{IsRead, fetch_fault};
+ghost use Rattle.xp_outside.specs.Outside.{Stands};
 ghost use Rattle.buffer_pool.specs.Counts.{LAST, Covers, IsCounted};
 ghost use Rattle.buffer_pool.specs.Told.{IsTold};
 ghost use Rattle.buffer_pool.specs.Used.{BeginsWith, IsAnswer, IsToldBad, IsUsed};
@@ -77,6 +78,7 @@ impl<D: Drive> Shard<D> {
         ensures read { IsRead D.Drive self.old.drive self.new.drive }
         ensures covers { (named : ℕ) → Covers named self.old.counter (D.faults self.old.drive) → Covers named self.new.counter (D.faults self.new.drive) }
         ensures ok { OnOk result (self.new.counter ≡ self.old.counter) }
+        ensures quiet { fetch_fault result ≡ None → Stands (D.faults self.old.drive) (D.faults self.new.drive) }
         ensures err { IfErr result (IsCounted (D.faults self.old.drive) (D.faults self.new.drive) self.old.counter self.new.counter) }
     {
         let found = read_page(alloc, &mut self.drive, &mut self.counter, address)?;
@@ -85,8 +87,8 @@ impl<D: Drive> Shard<D> {
 
     /// The page at an address, read or cached. It is the drive's, where the drive tells; its head breaks no rule for
     /// this kind, file and page; and it is then the one used last. No drive is read where the page is cached.
-    /// `DriveFault` has the number 0, and comes only where the read failed; the counter rises with it alone, up to
-    /// 2^64 - 2. `BadPage` comes exactly where the head of what was read or cached breaks a rule, with the first one.
+    /// `DriveFault` has the number 0, and comes only where the read failed; the drive's count rises with it alone, and so
+    /// does the counter, up to 2^64 - 2. `BadPage` comes exactly where the head of what was read or cached breaks a rule, with the first one.
     /// After each error the same pages are cached, in the same order.
     pub fn fetch(
         &mut self,
@@ -114,6 +116,7 @@ impl<D: Drive> Shard<D> {
         ensures bad { (named : D) → Fits named self.old → IfErr result (IsToldBad (D.pages named) kind file page address) }
         ensures err { IfErr result (IsCounted (D.faults self.old.drive) (D.faults self.new.drive) self.old.counter self.new.counter) }
         ensures ok { OnOk result (self.new.counter ≡ self.old.counter) }
+        ensures quiet { fetch_fault result ≡ None → Stands (D.faults self.old.drive) (D.faults self.new.drive) }
 
         // The drive keeps its size and what it tells, and the shard fits what it fitted.
         ensures read { IsRead D.Drive self.old.drive self.new.drive }

@@ -1,5 +1,5 @@
 //! The pages of a shared pool, for one thread.
-ghost use Rattle.std.specs.Prelude.{◌≡◌};
+ghost use Rattle.std.specs.Prelude.{◌≡◌, false};
 ghost use Rattle.buffer_pool.specs.Images.{image_on};
 ghost use Rattle.buffer_pool.specs.Seats.{IsSeatOf, counts_at, pool_drives, pool_map};
 
@@ -64,6 +64,8 @@ impl<'a, D: Drive, R: Wait> PageSource for PoolSource<'a, D, R> {
     ghost image = { λ pool. image_on D.Drive (pool_map pool) (pool_drives pool) };
 
     ghost faults = { λ source d. counts_at source.seat d };
+
+    ghost lone = { λ _. false };
 
     fn fetch(&mut self, alloc: Global, file: u32, page: u32) -> Result<Arc<Page>, FetchErr> {
         let place = place_of(&self.pool.map, file, page);

@@ -1,11 +1,13 @@
 //! One turn on a shard.
-ghost use Rattle.std.specs.Prelude.{◌≡◌, ◌<◌, ◌≤◌, ℕ};
+ghost use Rattle.std.specs.Prelude.{◌≡◌, ◌<◌, ◌≤◌, ℕ, None};
+ghost use Rattle.heap_page.specs.Stores.{fetch_fault};
 ghost use Rattle.run_lock.specs.Passes.{IsFree, IsSamePass, seen_of};
 ghost use Rattle.buffer_pool.specs.Counts.{GoesOn, count_of};
 ghost use Rattle.buffer_pool.specs.Fetched.{IsFetched};
 ghost use Rattle.buffer_pool.specs.Locks.{lock_drive};
 ghost use Rattle.buffer_pool.specs.Lone.{IsOn, IsTurn};
 ghost use Rattle.buffer_pool.specs.Shards.{Fits};
+ghost use Rattle.xp_outside.specs.Outside.{Stands};
 
 use crate::place::{Place, of_drive};
 use crate::shard::Shard;
@@ -27,6 +29,7 @@ pub(crate) fn fetch_at<D: Drive>(
     ensures on { IsOn shard.old shard.new }
     ensures turn { IsTurn place file page shard.old shard.new result }
     ensures fetched { (named : D) → Fits named shard.old → IsFetched (D.pages named) place file page (D.faults shard.old.drive) (D.faults shard.new.drive) result }
+    ensures quiet { fetch_fault result ≡ None → Stands (D.faults shard.old.drive) (D.faults shard.new.drive) }
     ensures frames { shard.new.cache.cap ≡ shard.old.cache.cap }
     ensures counter { GoesOn shard.old.counter shard.new.counter }
     ensures seen { (named : D) (seen : ℕ) → Fits named shard.old → seen ≤ shard.old.counter → IsFetched (D.pages named) place file page (count_of seen) (count_of shard.new.counter) result }

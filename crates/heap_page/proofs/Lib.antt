@@ -1,3 +1,4 @@
+pub mod Calm
 pub mod Parts
 mod Standing
 mod Written

@@ -165,7 +165,7 @@ struct EmptyFile {
 }
 
 impl PageSource for EmptyFile {
-    ghost use Rattle.std.specs.Prelude.{Some, [], ◌∷◌};
+    ghost use Rattle.std.specs.Prelude.{Some, [], ◌∷◌, true};
     ghost use Rattle.heap_page.specs.declared.head.FileKind.TheVariants.{Heap};
     ghost use Rattle.heap_page.specs.Pages.{page_of};
 
@@ -180,6 +180,8 @@ impl PageSource for EmptyFile {
     ghost image = { λ _. Some (λ file page. page_of file page []) };
 
     ghost faults = { λ _ _. 0 };
+
+    ghost lone = { λ _. true };
 
     fn fetch(&mut self, alloc: Global, file: u32, page: u32) -> Result<Arc<Page>, FetchErr> {
         let page = Page::empty(alloc, file, page)?;

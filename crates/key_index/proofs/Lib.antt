@@ -1,3 +1,4 @@
+mod Rules
 mod Scanning
 mod Placed
 mod Looks

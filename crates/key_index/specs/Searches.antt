@@ -26,10 +26,14 @@ NotBad (DriveFault d) = ⊤
 NotBad (BadPage bad) = ⊥
 NotBad NoMemory = ⊤
 
--- Why a search finds nothing: the count of a drive has risen, a page of the index is bad, or there is no memory.
+-- the number of a rule for pages of an index
+abbrev pub IsRule : ℕ → Type 0
+IsRule rule = (0 < rule) × (rule < 10)
+
+-- Why a search finds nothing: the count of a drive has risen, a page of the index breaks a rule, or there is no memory.
 abbrev pub SearchCause : KeyIndex → ℕ → (ℕ → ℕ) → (ℕ → ℕ) → FetchErr → Type 0
 SearchCause index drives before now (DriveFault d) = (d < drives) × Rose (before d) (now d)
-SearchCause index drives before now (BadPage bad) = (bad.file ≡ index.file) × (bad.page < index.pages)
+SearchCause index drives before now (BadPage bad) = (bad.file ≡ index.file) × (bad.page < index.pages) × IsRule bad.rule
 SearchCause index drives before now NoMemory = ⊤
 
 -- ---- the search in one page

@@ -3,6 +3,8 @@ ghost use Rattle.std.specs.Prelude.{◌≡◌, ◌+◌, ◌<◌, ◌≤◌, ℕ,
 ghost use Rattle.std.specs.Arc.{arc_value};
 ghost use Rattle.heap_page.specs.declared.head.FileKind.TheVariants.{Index};
 ghost use Rattle.heap_page.specs.Pages.{head_fault};
+ghost use Rattle.heap_page.specs.Sources.{AreCalm};
+ghost use Rattle.heap_page.specs.Stores.{fetch_fault};
 ghost use Rattle.key_index.specs.Aims.{IsFront, chosen, count, first_of, passes, upto_number};
 ghost use Rattle.rows.specs.declared.plain.KeyEntry.{KeyEntry};
 ghost use Rattle.key_index.specs.Entries.{Item, items_of};
@@ -28,6 +30,7 @@ fn fetch_page<P: PageSource>(
     requires page { page < index.now.pages }
     ensures whole { P.whole pages.new ≡ P.whole pages.old }
     ensures counts { (d : ℕ) → P.faults pages.old d ≤ P.faults pages.new d }
+    ensures quiet { AreCalm (P.lone (P.whole pages.old)) (fetch_fault result) (P.faults pages.old) (P.faults pages.new) }
     ensures told { (f : ℕ → ℕ → List ℕ) → P.image (P.whole pages.old) ≡ Some f → IfOk result (λ found. arc_value found ≡ f index.now.file page) }
     ensures accepted { (f : ℕ → ℕ → List ℕ) → P.image (P.whole pages.old) ≡ Some f → head_fault Index index.now.file page (f index.now.file page) ≡ None → IfErr result NotBad }
     ensures path { (f : ℕ → ℕ → List ℕ) → P.image (P.whole pages.old) ≡ Some f →
@@ -67,6 +70,7 @@ fn step_down<P: PageSource>(
     requires level { 0 < level }
     ensures whole { P.whole pages.new ≡ P.whole pages.old }
     ensures counts { (d : ℕ) → P.faults pages.old d ≤ P.faults pages.new d }
+    ensures quiet { AreCalm (P.lone (P.whole pages.old)) (fetch_fault result) (P.faults pages.old) (P.faults pages.new) }
     ensures within { IfOk result (λ next. (next.0 < index.now.pages) × (next.1 ≤ index.now.entries)) }
     ensures told { (f : ℕ → ℕ → List ℕ) (items : List Item) → P.image (P.whole pages.old) ≡ Some f → IsIndexPage index.now level left page (f index.now.file page) items → IsFront (passes aim.entry) items →
         let e = chosen (passes aim.entry) (first_of items) items in MatchResult result (λ next. (next.0 ≡ e.page) × (next.1 ≡ e.left)) NotBad }
@@ -93,6 +97,7 @@ fn leaf_rank<P: PageSource>(
     requires page { page < index.now.pages }
     ensures whole { P.whole pages.new ≡ P.whole pages.old }
     ensures counts { (d : ℕ) → P.faults pages.old d ≤ P.faults pages.new d }
+    ensures quiet { AreCalm (P.lone (P.whole pages.old)) (fetch_fault result) (P.faults pages.old) (P.faults pages.new) }
     ensures within { IfOk result (λ rank. rank ≤ index.now.entries) }
     ensures told { (f : ℕ → ℕ → List ℕ) (items : List Item) → P.image (P.whole pages.old) ≡ Some f → IsIndexPage index.now 0 left page (f index.now.file page) items → IsFront (passes aim.entry) items →
         left + count (passes aim.entry) items ≤ index.now.entries → MatchResult result (λ rank. rank ≡ left + count (passes aim.entry) items) NotBad }
@@ -119,6 +124,7 @@ pub(crate) fn leaf_entry<P: PageSource>(
     requires page { page < index.now.pages }
     ensures whole { P.whole pages.new ≡ P.whole pages.old }
     ensures counts { (d : ℕ) → P.faults pages.old d ≤ P.faults pages.new d }
+    ensures quiet { AreCalm (P.lone (P.whole pages.old)) (fetch_fault result) (P.faults pages.old) (P.faults pages.new) }
     ensures within { IfOk result (λ at. at.0 < index.now.heap_pages) }
     ensures told { (f : ℕ → ℕ → List ℕ) (items : List Item) → P.image (P.whole pages.old) ≡ Some f → IsIndexPage index.now 0 left page (f index.now.file page) items → IsFront (upto_number number) items →
         let e = chosen (upto_number number) (first_of items) items in e.left ≡ number → MatchResult result (λ at. (at.0 ≡ e.page) × (at.1 ≡ e.slot)) NotBad }
@@ -143,6 +149,7 @@ pub(crate) fn reach<P: PageSource>(
     requires some { (0 < index.now.pages) × (0 < index.now.height) }
     ensures whole { P.whole pages.new ≡ P.whole pages.old }
     ensures counts { (d : ℕ) → P.faults pages.old d ≤ P.faults pages.new d }
+    ensures quiet { AreCalm (P.lone (P.whole pages.old)) (fetch_fault result) (P.faults pages.old) (P.faults pages.new) }
     ensures within { IfOk result (λ at. at.0 < index.now.pages) }
     ensures told { (f : ℕ → ℕ → List ℕ) (entries : List KeyEntry) → P.image (P.whole pages.old) ≡ Some f → HoldsIndex index.now (f index.now.file) entries → IsFront (passes aim.entry) (items_of entries) →
         MatchResult result (IsLeafFor index.now (f index.now.file) (passes aim.entry) (items_of entries)) NotBad }
@@ -171,6 +178,7 @@ pub(crate) fn rank<P: PageSource>(
     requires some { IsUsable index.now }
     ensures whole { P.whole pages.new ≡ P.whole pages.old }
     ensures counts { (d : ℕ) → P.faults pages.old d ≤ P.faults pages.new d }
+    ensures quiet { AreCalm (P.lone (P.whole pages.old)) (fetch_fault result) (P.faults pages.old) (P.faults pages.new) }
     ensures within { IfOk result (λ rank. rank ≤ index.now.entries) }
     ensures told { (f : ℕ → ℕ → List ℕ) (entries : List KeyEntry) → P.image (P.whole pages.old) ≡ Some f → HoldsIndex index.now (f index.now.file) entries → IsFront (passes aim.entry) (items_of entries) →
         MatchResult result (λ rank. rank ≡ count (passes aim.entry) (items_of entries)) NotBad }

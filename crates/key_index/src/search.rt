@@ -1,5 +1,7 @@
 //! Searches in an index.
 ghost use Rattle.std.specs.Prelude.{◌≡◌, ◌<◌, ◌≤◌, ℕ, List, Some, IfErr, IfOk, MatchResult, max, min, slice_get, ◌⊎◌};
+ghost use Rattle.heap_page.specs.Sources.{AreCalm};
+ghost use Rattle.heap_page.specs.Stores.{fetch_fault};
 ghost use Rattle.rows.specs.declared.plain.KeyEntry.{KeyEntry};
 ghost use Rattle.key_index.specs.Aims.{below_key, upto_key};
 ghost use Rattle.key_index.specs.Entries.{number_below, number_upto};
@@ -33,6 +35,7 @@ pub fn rank_low<P: PageSource>(
     requires some { IsUsable index.now }
     ensures whole { P.whole pages.new ≡ P.whole pages.old }
     ensures counts { (d : ℕ) → P.faults pages.old d ≤ P.faults pages.new d }
+    ensures quiet { AreCalm (P.lone (P.whole pages.old)) (fetch_fault result) (P.faults pages.old) (P.faults pages.new) }
     ensures within { IfOk result (λ rank. rank ≤ index.now.entries) }
     ensures told { (f : ℕ → ℕ → List ℕ) (entries : List KeyEntry) → P.image (P.whole pages.old) ≡ Some f → HoldsIndex index.now (f index.now.file) entries →
         MatchResult result (λ rank. rank ≡ number_below key.now entries) NotBad }
@@ -54,6 +57,7 @@ pub fn rank_high<P: PageSource>(
     requires some { IsUsable index.now }
     ensures whole { P.whole pages.new ≡ P.whole pages.old }
     ensures counts { (d : ℕ) → P.faults pages.old d ≤ P.faults pages.new d }
+    ensures quiet { AreCalm (P.lone (P.whole pages.old)) (fetch_fault result) (P.faults pages.old) (P.faults pages.new) }
     ensures within { IfOk result (λ rank. rank ≤ index.now.entries) }
     ensures told { (f : ℕ → ℕ → List ℕ) (entries : List KeyEntry) → P.image (P.whole pages.old) ≡ Some f → HoldsIndex index.now (f index.now.file) entries →
         MatchResult result (λ rank. rank ≡ number_upto key.now entries) NotBad }
@@ -75,6 +79,7 @@ fn find_lower<P: PageSource>(
     requires some { IsUsable index.now }
     ensures whole { P.whole pages.new ≡ P.whole pages.old }
     ensures counts { (d : ℕ) → P.faults pages.old d ≤ P.faults pages.new d }
+    ensures quiet { AreCalm (P.lone (P.whole pages.old)) (fetch_fault result) (P.faults pages.old) (P.faults pages.new) }
     ensures within { IfOk result (λ end. end ≤ index.now.entries) }
     ensures told { (f : ℕ → ℕ → List ℕ) (entries : List KeyEntry) → P.image (P.whole pages.old) ≡ Some f → HoldsIndex index.now (f index.now.file) entries →
         MatchResult result (λ end. end ≡ lower_end bound.now.op bound.now.value entries) NotBad }
@@ -101,6 +106,7 @@ fn find_upper<P: PageSource>(
     requires some { IsUsable index.now }
     ensures whole { P.whole pages.new ≡ P.whole pages.old }
     ensures counts { (d : ℕ) → P.faults pages.old d ≤ P.faults pages.new d }
+    ensures quiet { AreCalm (P.lone (P.whole pages.old)) (fetch_fault result) (P.faults pages.old) (P.faults pages.new) }
     ensures within { IfOk result (λ end. end ≤ index.now.entries) }
     ensures told { (f : ℕ → ℕ → List ℕ) (entries : List KeyEntry) → P.image (P.whole pages.old) ≡ Some f → HoldsIndex index.now (f index.now.file) entries →
         MatchResult result (λ end. end ≡ upper_end bound.now.op bound.now.value entries) NotBad }
@@ -129,6 +135,7 @@ fn narrow<P: PageSource>(
     requires ends { (ends.from ≤ index.now.entries) × (ends.upto ≤ index.now.entries) }
     ensures whole { P.whole pages.new ≡ P.whole pages.old }
     ensures counts { (d : ℕ) → P.faults pages.old d ≤ P.faults pages.new d }
+    ensures quiet { AreCalm (P.lone (P.whole pages.old)) (fetch_fault result) (P.faults pages.old) (P.faults pages.new) }
     ensures within { IfOk result (λ now. (now.from ≤ index.now.entries) × (now.upto ≤ index.now.entries)) }
     ensures told { (f : ℕ → ℕ → List ℕ) (entries : List KeyEntry) → P.image (P.whole pages.old) ≡ Some f → HoldsIndex index.now (f index.now.file) entries →
         MatchResult result (λ now. (now.from ≡ max ends.from (lower_end bound.now.op bound.now.value entries)) × (now.upto ≡ min ends.upto (upper_end bound.now.op bound.now.value entries))) NotBad }
@@ -160,6 +167,7 @@ pub fn interval<P: PageSource>(
     requires some { IsUsable index.now }
     ensures whole { P.whole pages.new ≡ P.whole pages.old }
     ensures counts { (d : ℕ) → P.faults pages.old d ≤ P.faults pages.new d }
+    ensures quiet { AreCalm (P.lone (P.whole pages.old)) (fetch_fault result) (P.faults pages.old) (P.faults pages.new) }
     ensures within { IfOk result (λ found. (found.from ≤ found.upto) × (found.upto ≤ index.now.entries)) }
     ensures told { (f : ℕ → ℕ → List ℕ) (entries : List KeyEntry) → P.image (P.whole pages.old) ≡ Some f → HoldsIndex index.now (f index.now.file) entries →
         MatchResult result (λ found. found ≡ interval_of bounds.now entries) NotBad }
@@ -195,6 +203,7 @@ pub fn entry<P: PageSource>(
     requires number { number < index.now.entries }
     ensures whole { P.whole pages.new ≡ P.whole pages.old }
     ensures counts { (d : ℕ) → P.faults pages.old d ≤ P.faults pages.new d }
+    ensures quiet { AreCalm (P.lone (P.whole pages.old)) (fetch_fault result) (P.faults pages.old) (P.faults pages.new) }
     ensures within { IfOk result (λ at. at.0 < index.now.heap_pages) }
     ensures told { (f : ℕ → ℕ → List ℕ) (entries : List KeyEntry) (e : KeyEntry) → P.image (P.whole pages.old) ≡ Some f → HoldsIndex index.now (f index.now.file) entries → slice_get entries number ≡ Some e →
         MatchResult result (λ at. (at.0 ≡ e.page) × (at.1 ≡ e.slot)) NotBad }

@@ -22,7 +22,7 @@ struct PageList {
 }
 
 impl PageSource for PageList {
-    ghost use Rattle.std.specs.Prelude.{None, [], ◌∷◌};
+    ghost use Rattle.std.specs.Prelude.{None, [], ◌∷◌, true};
     ghost use Rattle.heap_page.specs.declared.head.FileKind.TheVariants.{Index};
 
     type Whole = u32;
@@ -36,6 +36,8 @@ impl PageSource for PageList {
     ghost image = { λ _. None };
 
     ghost faults = { λ _ _. 0 };
+
+    ghost lone = { λ _. true };
 
     fn fetch(&mut self, alloc: Global, file: u32, page: u32) -> Result<Arc<Page>, FetchErr> {
         let bytes = match self.pages.get(page as usize) {

@@ -1,5 +1,5 @@
 -- Why there is no plan.
-use Rattle.std.proofs.Common.{◌≡◌, ℕ, ◌<◌, ◌≤◌, List, length, Option, Some, subst, sym, ap, ◌∙◌, arith}
+use Rattle.std.proofs.Common.{◌≡◌, ℕ, ◌<◌, ◌≤◌, true, List, length, Option, Some, refl, subst, sym, ap, ◌∙◌, arith}
 use Rattle.std.specs.Prelude.{slice_get, option_map, IfErr, Result, Ok, Err}
 use Rattle.std.specs.Option.{option_map_or}
 use Rattle.std.proofs.lemmas.List.{length-map}
@@ -8,6 +8,8 @@ use Rattle.xp_outside.specs.declared.drive.Drive.{Ghosts}
 use Rattle.heap_page.specs.declared.errors.BadPage.{BadPage}
 use Rattle.heap_page.specs.declared.errors.FetchErr.{FetchErr}
 use Rattle.heap_page.specs.declared.errors.FetchErr.TheVariants as fetch
+use Rattle.heap_page.specs.Sources.{AreCalm}
+use Rattle.heap_page.specs.Stores.{AreQuiet}
 use Rattle.buffer_pool.specs.Lone.{count_at, drives_in}
 use Rattle.buffer_pool.specs.declared.shard.Shard.{Shard}
 use Rattle.buffer_pool.proofs.Lists.{item_at}
@@ -29,6 +31,7 @@ searched laid image table index bounds drives before now (fetch.BadPage bad) sta
   stands = stands;
   file = cause.0;
   there = (has.0, rw cause.0 has.1, omega (arith, cause.1, has.3));
+  rule = cause.2;
   broken = λ pages is. (bounds, stops pages is);
 }
 searched laid image table index bounds drives before now fetch.NoMemory stands has cause stops = cause
@@ -59,6 +62,12 @@ module _ {D : Type 0} (g : Ghosts D) where
     where
       some_is : (x y : D) → Some x ≡ Some y → x ≡ y
       some_is x y e = cc
+
+  -- the counts of its drives that stand
+  pub quiet_of : (fault : Option ℕ) (olds news : List D) (first last : List (Shard D g)) → drives_in first ≡ olds → news ≡ drives_in last → AreCalm true fault (count_at first) (count_at last) → AreQuiet g fault olds news
+  quiet_of fault olds news first last was is calm = record {
+    each = λ d old new other at here. sym (count_of last d new (rw (← is) here)) ∙ (calm refl d other ∙ count_of first d old (rw was at));
+  }
 
   -- the drives of a pool, as it was made and as it is at the end
   pub of_drives : (laid : Laid) (image : Option (ℕ → ℕ → List ℕ)) (drives : ℕ) (olds news : List D) (first last : List (Shard D g)) (e : FetchErr) → drives_in first ≡ olds → news ≡ drives_in last → image ≡ image_on g laid.map olds → drives ≡ length olds → length news ≡ length olds →

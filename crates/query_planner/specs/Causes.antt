@@ -9,18 +9,20 @@ use Rattle.heap_page.specs.declared.errors.FetchErr.TheVariants as fetch
 use Rattle.heap_page.specs.Maps.{HasPage}
 use Rattle.heap_page.specs.Stores.{IsFault}
 use Rattle.key_index.specs.Paths.{StopsInterval}
+use Rattle.key_index.specs.Searches.{IsRule}
 use Rattle.rows.specs.declared.plain.Bound.{Bound}
 use Rattle.rows.specs.declared.plain.KeyIndex.{KeyIndex}
 use Rattle.table_store.specs.declared.database.Laid.{Laid}
 
--- A page of an index that was laid is bad. Where the image is told, a search for some bounds stops at it, and the rule is the first one that
--- it breaks.
+-- A page of an index that was laid breaks a rule for pages of an index. Where the image is told, a search for some bounds stops at it, and the
+-- rule is the first one that it breaks.
 pub record IsBadIndexPage (laid : Laid) (image : Option (ℕ → ℕ → List ℕ)) (bad : BadPage) : Type 0 where
   pub table : ℕ
   pub index : KeyIndex
   pub stands : slice_get laid.indexes.items table ≡ Some (Some index)
   pub file : bad.file ≡ index.file
   pub there : HasPage laid.map.files.items bad.file bad.page
+  pub rule : IsRule bad.rule
   pub broken : (pages : ℕ → ℕ → List ℕ) → image ≡ Some pages → (bounds : List Bound) × StopsInterval index (pages index.file) bounds bad
 
 -- of a source with so many drives: the count of a drive has risen, a page of an index is bad, or there is no memory

@@ -1,5 +1,7 @@
 //! What a plan rests on, counted of the tables.
 ghost use Rattle.std.specs.Prelude.{◌≡◌, ◌<◌, ◌≤◌, ℕ, List, Option, Some, IfErr, IfOk, IfSome, MatchResult, length, slice_get};
+ghost use Rattle.heap_page.specs.Sources.{AreCalm};
+ghost use Rattle.heap_page.specs.Stores.{fetch_fault};
 ghost use Rattle.key_index.specs.Files.{HoldsIndex};
 ghost use Rattle.key_index.specs.Paths.{IfBad, StopsInterval};
 ghost use Rattle.key_index.specs.Searches.{HasIndex, IsUsable, NotBad, SearchCause};
@@ -66,6 +68,7 @@ fn left_by<P: PageSource>(
     requires some { IsUsable index.now }
     ensures whole { P.whole pages.new ≡ P.whole pages.old }
     ensures counts { (d : ℕ) → P.faults pages.old d ≤ P.faults pages.new d }
+    ensures quiet { AreCalm (P.lone (P.whole pages.old)) (fetch_fault result) (P.faults pages.old) (P.faults pages.new) }
     ensures within { IfOk result (λ found. IfSome found IsInterval) }
     ensures left { IfOk result (IsLeft (P.image (P.whole pages.old)) bounds.now (Some index.now)) }
     ensures told { (f : ℕ → ℕ → List ℕ) (stored : StoredIndex) → P.image (P.whole pages.old) ≡ Some f → HoldsIndex index.now (f index.now.file) stored.entries →
@@ -94,6 +97,7 @@ fn interval_on<P: PageSource>(
     requires test { IsTyped (question_of query.now).test }
     ensures whole { P.whole pages.new ≡ P.whole pages.old }
     ensures counts { (d : ℕ) → P.faults pages.old d ≤ P.faults pages.new d }
+    ensures quiet { AreCalm (P.lone (P.whole pages.old)) (fetch_fault result) (P.faults pages.old) (P.faults pages.new) }
     ensures within { IfOk result (λ found. IfSome found IsInterval) }
     ensures left { (here : Relation) (index : Option KeyIndex) → slice_get known.now.relations.now relation ≡ Some here → slice_get known.now.laid.now.indexes.items relation ≡ Some index →
         IfOk result (IsLeft (P.image (P.whole pages.old)) (bounds_on here.index var (question_of query.now)) index) }
@@ -126,6 +130,7 @@ fn stats_of<P: PageSource>(
     requires var { var < length (question_of query.now).vars }
     ensures whole { P.whole pages.new ≡ P.whole pages.old }
     ensures counts { (d : ℕ) → P.faults pages.old d ≤ P.faults pages.new d }
+    ensures quiet { AreCalm (P.lone (P.whole pages.old)) (fetch_fault result) (P.faults pages.old) (P.faults pages.new) }
     ensures within { IfOk result (λ s. IfSome s.interval IsInterval) }
     ensures left { (v : Var) (here : Relation) (index : Option KeyIndex) → slice_get (question_of query.now).vars var ≡ Some v → slice_get known.now.relations.now v.relation ≡ Some here → slice_get known.now.laid.now.indexes.items v.relation ≡ Some index →
         IfOk result (λ s. IsLeft (P.image (P.whole pages.old)) (bounds_on here.index var (question_of query.now)) index s.interval) }
@@ -150,6 +155,7 @@ pub(crate) fn all_stats<P: PageSource>(
     requires query { MayPlan known.now.relations.now (question_of query.now) }
     ensures whole { P.whole pages.new ≡ P.whole pages.old }
     ensures counts { (d : ℕ) → P.faults pages.old d ≤ P.faults pages.new d }
+    ensures quiet { AreCalm (P.lone (P.whole pages.old)) (fetch_fault result) (P.faults pages.old) (P.faults pages.new) }
     ensures can { IfOk result (CanPlan (question_of query.now)) }
     ensures left { IfOk result (AreLeft known.now.relations.now known.now.laid.now (P.image (P.whole pages.old)) (question_of query.now)) }
     ensures told { (tables : List StoredTable) → Tells known.now tables (P.image (P.whole pages.old)) →

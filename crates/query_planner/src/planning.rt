@@ -3,7 +3,8 @@ ghost use Rattle.std.specs.Prelude.{◌≡◌, ◌≤◌, ℕ, List, Err, IfErr,
 ghost use Rattle.buffer_pool.specs.Images.{image_on};
 ghost use Rattle.heap_page.specs.declared.errors.BadPage.{BadPage};
 ghost use Rattle.heap_page.specs.declared.errors.FetchErr.TheVariants as fetch;
-ghost use Rattle.heap_page.specs.Stores.{AreRead, HaveRoom};
+ghost use Rattle.heap_page.specs.Sources.{AreCalm};
+ghost use Rattle.heap_page.specs.Stores.{AreQuiet, AreRead, HaveRoom, fetch_fault};
 ghost use Rattle.key_index.specs.Searches.{NotBad};
 ghost use Rattle.plan_tree.specs.Views.{planned_of};
 ghost use Rattle.rel_meaning.specs.Expression.{question_of};
@@ -51,6 +52,7 @@ fn plan_of<P: PageSource>(
     requires query { MayPlan known.now.relations.now (question_of query.now) }
     ensures whole { P.whole pages.new ≡ P.whole pages.old }
     ensures counts { (d : ℕ) → P.faults pages.old d ≤ P.faults pages.new d }
+    ensures quiet { AreCalm (P.lone (P.whole pages.old)) (fetch_fault result) (P.faults pages.old) (P.faults pages.new) }
     ensures tree { IfOk result (λ p. IsPlannedOver known.now.relations.now known.now.laid.now (P.image (P.whole pages.old)) method (question_of query.now) (planned_of p)) }
     ensures told { (tables : List StoredTable) → Tells known.now tables (P.image (P.whole pages.old)) →
         MatchResult result (λ p. IsPlanOf known.now.relations.now tables method (question_of query.now) (planned_of p)) NotBad }
@@ -73,6 +75,7 @@ fn plans_of<P: PageSource>(
     requires queries { All (λ q. MayPlan known.now.relations.now (question_of q)) queries.now }
     ensures whole { P.whole pages.new ≡ P.whole pages.old }
     ensures counts { (d : ℕ) → P.faults pages.old d ≤ P.faults pages.new d }
+    ensures quiet { AreCalm (P.lone (P.whole pages.old)) (fetch_fault result) (P.faults pages.old) (P.faults pages.new) }
     ensures trees { IfOk result (λ plans. ArePlannedOver known.now.relations.now known.now.laid.now (P.image (P.whole pages.old)) method (map question_of queries.now) (map planned_of plans)) }
     ensures told { (tables : List StoredTable) → Tells known.now tables (P.image (P.whole pages.old)) →
         MatchResult result (λ plans. AreBestPlans known.now.relations.now tables method (map question_of queries.now) (map planned_of plans)) NotBad }
@@ -93,7 +96,8 @@ fn plans_of<P: PageSource>(
 /// where the search is made and lie within the entries of the indexes; where all drives tell, they are what the searches
 /// find in the told pages. `DriveFault` comes only where that drive's count rises. `BadPage` has a page of one of the
 /// indexes, and doesn't come where all drives tell the image of the tables; where all drives tell, a search for some
-/// bounds stops at it, with the first rule that it breaks. `NoMemory` is want of memory. Each drive is handed back in its place: it keeps its number of pages and all that it tells, and its count doesn't fall.
+/// bounds stops at it, with the first rule that it breaks. `NoMemory` is want of memory. Each drive is handed back in its place: it keeps its number of pages and all that it tells. The
+/// count of no drive rises but that of the one that `DriveFault` names.
 pub fn plan_queries<D: Drive>(
     alloc: Global,
     drives: Vec<D>,
@@ -107,6 +111,7 @@ pub fn plan_queries<D: Drive>(
     requires room { HaveRoom D.Drive laid.now.map drives.items }
     requires queries { All (λ q. MayPlan relations.now (question_of q)) queries.now }
     ensures read { AreRead D.Drive drives.items result.drives.items }
+    ensures quiet { AreQuiet D.Drive (fetch_fault result.plans) drives.items result.drives.items }
     ensures plans { (tables : List StoredTable) → AreOf relations.now rows.now laid.now (vec_len drives) tables → HoldImage D.Drive laid.now.map tables drives.items → AllTell D.Drive drives.items →
         IfOk result.plans (λ plans. AreBestPlans relations.now tables method (map question_of queries.now) (map planned_of plans)) }
     ensures trees { IfOk result.plans (λ plans. ArePlannedOver relations.now laid.now (image_on D.Drive laid.now.map drives.items) method (map question_of queries.now) (map planned_of plans)) }

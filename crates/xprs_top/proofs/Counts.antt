@@ -1,5 +1,5 @@
 -- Drives that have not failed.
-use Rattle.std.proofs.Common.{◌≡◌, ℕ, List, Option, None, Err, length, refl, sym, ◌∙◌, arith, subst}
+use Rattle.std.proofs.Common.{◌≡◌, ℕ, List, Option, None, Result, Ok, Err, length, refl, sym, ap, ◌∙◌, arith, subst}
 use Rattle.heap_page.specs.declared.errors.StoreErr.{StoreErr}
 use Rattle.heap_page.specs.declared.errors.StoreErr.TheVariants as store
 use Rattle.heap_page.specs.declared.errors.FetchErr.{FetchErr}
@@ -8,11 +8,15 @@ use Rattle.heap_page.specs.Stores.{AreQuiet, fetch_fault, store_fault}
 use Rattle.heap_page.proofs.Found.{get_below, there}
 use Rattle.xp_outside.specs.declared.drive.Drive.{Ghosts}
 use Rattle.xp_outside.specs.Drives.{IsFresh}
+use Rattle.plan_tree.specs.declared.tree.Plan.{Plan}
+use Rattle.std.specs.declared.vec.Vec.{Vec}
 use Rattle.table_store.specs.Databases.{AllFresh}
 use Rattle.table_store.proofs.Filed.{all_at}
 use Rattle.xprs_top.specs.declared.status.Status.{Status}
-use Rattle.xprs_top.specs.Counts.{NoOtherFailed, named_drive}
+use Rattle.xprs_top.specs.declared.status.Status.TheVariants.{Done, Usage, Refused, ShelfFault, DriveFault, Bad, SinkFault, DriveFull, NotBuilt, NoMemory}
+use Rattle.xprs_top.specs.Counts.{NoOtherFailed, failed_drive, named_drive}
 use Rattle.xprs_top.specs.Statuses.{of_fetch, of_store}
+use Rattle.xprs_top.specs.Texts.{Explains}
 
 -- the drive that a status names is the one that the error names
 pub named_store : (e : StoreErr) → named_drive (of_store e) ≡ store_fault {T = ℕ} (Err e)
@@ -24,6 +28,25 @@ pub named_fetch : (e : FetchErr) → named_drive (of_fetch e) ≡ fetch_fault {T
 named_fetch (fetch.DriveFault d) = refl
 named_fetch (fetch.BadPage bad) = refl
 named_fetch fetch.NoMemory = refl
+
+-- a text of plans names the drive whose read has failed
+pub named_plans : (plans : Result (List Plan) FetchErr) (text : Result (Vec ℕ) Status) → Explains plans text → failed_drive text ≡ fetch_fault plans
+named_plans (Ok ps) (Ok text) shows = refl
+named_plans (Ok ps) (Err NoMemory) shows = refl
+named_plans (Ok ps) (Err Done) shows = absurd shows
+named_plans (Ok ps) (Err Usage) shows = absurd shows
+named_plans (Ok ps) (Err (Refused r)) shows = absurd shows
+named_plans (Ok ps) (Err ShelfFault) shows = absurd shows
+named_plans (Ok ps) (Err (DriveFault d)) shows = absurd shows
+named_plans (Ok ps) (Err (Bad bad)) shows = absurd shows
+named_plans (Ok ps) (Err SinkFault) shows = absurd shows
+named_plans (Ok ps) (Err (DriveFull d needs capacity)) shows = absurd shows
+named_plans (Ok ps) (Err NotBuilt) shows = absurd shows
+named_plans (Err e) text shows = ap failed_drive shows ∙ named_fetch e ∙ same e where
+  same : (e : FetchErr) → fetch_fault {T = ℕ} (Err e) ≡ fetch_fault {T = List Plan} (Err e)
+  same (fetch.DriveFault d) = refl
+  same (fetch.BadPage bad) = refl
+  same fetch.NoMemory = refl
 
 module _ {D : Type 0} (g : Ghosts D) where
   -- new drives whose counts stand have not failed

@@ -95,6 +95,7 @@ module _ {D : Type 0} (g : Ghosts D) where
             indexed = known.0;
             file = cause.file ∙ known.1;
             page = cause.there;
+            rule = (omega (arith, cause.rule.0), omega (arith, cause.rule.1));
             untold = untold g news (λ all. never out.tables bad are (out.image fresh) (all_mids all) refl);
           },
         )

@@ -66,7 +66,7 @@ module _ {D : Type 0} (g : Ghosts D) where
     pub here : slice_get drives (drive_of map_of bad.page) ≡ Some drive
     pub untold : g.pages drive ≡ None
 
-  -- A page of the index of some table, on drives of which some don't tell.
+  -- A page of the index of some table, on drives of which some don't tell, and the number of a rule of such pages, 1 to 9.
   pub record IsBadIndexPage (tables : List StoredTable) (map_of : FileMap) (bad : BadPage) (drives : List D) : Type 0 where
     pub table : ℕ
     pub stored : StoredTable
@@ -74,6 +74,7 @@ module _ {D : Type 0} (g : Ghosts D) where
     pub indexed : IsSome stored.index
     pub file : bad.file ≡ file_number tables table + 1
     pub page : HasPage map_of.files.items bad.file bad.page
+    pub rule : (1 ≤ bad.rule) × (bad.rule ≤ 9)
     pub untold : IsUntold drives
 
   -- this drive is the first one that has fewer pages than the tables need there, and nothing was written

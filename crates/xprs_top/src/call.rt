@@ -1,6 +1,6 @@
 ghost use Rattle.std.specs.Prelude.{◌≡◌, ◌≢◌, None, [], length, map, string_bytes};
 ghost use Rattle.xp_outside.specs.Outside.{Stands};
-ghost use Rattle.xprs_top.specs.Counts.{AsksAlone, NoOtherFailed, failed_drive, named_drive};
+ghost use Rattle.xprs_top.specs.Counts.{NoOtherFailed, failed_drive, named_drive};
 ghost use Rattle.xprs_top.specs.Devices.{IsCount};
 ghost use Rattle.xprs_top.specs.Runs.{AsksCheck, Caused, Completes, IsEarly, Poured, Refuses, Tells, outside};
 ghost use Rattle.xprs_top.specs.Words.{form_of};
@@ -57,7 +57,7 @@ fn run<S: Shelf, K: Rack, W: Sink>(
     ensures shelf { result.status ≢ Status.ShelfFault → Stands (S.faults shelf.old) (S.faults shelf.new) }
     ensures rack { result.status ≢ Status.DriveFault None → Stands (K.faults rack.old) (K.faults rack.new) }
     ensures out { result.status ≢ Status.SinkFault → Stands (W.faults out.old) (W.faults out.new) }
-    ensures others { AsksAlone (form_of (map string_bytes words.now)) → NoOtherFailed K.Drive.Drive (named_drive result.status) result.drives.items }
+    ensures others { NoOtherFailed K.Drive.Drive (named_drive result.status) result.drives.items }
     ensures count { IsCount (length result.drives.items) }
 {
     let Some(operands) = read_words(words) else {
@@ -85,8 +85,8 @@ pub fn answer_alone<S: Shelf, K: Rack, W: Sink, E: Sink>(
 ) -> Outcome<K::Drive>
     // Done: where all drives tell, the output got exactly the text that the words and the files mean, and each drive that
     // tells holds exactly its part of the tables. Each other status has its cause, and at each but Done and SinkFault the
-    // output got nothing. Bad names, for `alone`, a page of a table's heap file that its drive doesn't tell, and one of the
-    // rules 1 to 9, and for `explain` a page of an index, where some drive doesn't tell. At DriveFull the drives are as they
+    // output got nothing. Bad names one of the rules 1 to 9 and, for `alone`, a page of a table's heap file that its drive
+    // doesn't tell, and for `explain` a page of an index, where some drive doesn't tell. At DriveFull the drives are as they
     // were mounted: zeros where they tell.
     ensures cause { Caused K.Drive.Drive (form_of (map string_bytes words.now)) (outside (S.files shelf.old) (S.faults shelf.old) (S.faults shelf.new) (K.faults rack.old) (K.faults rack.new) (W.faults out.old) (W.faults out.new) (W.written out.old) (W.written out.new)) result.drives.items result.status }
     // Usage comes wherever the words are no form; by the clause before it comes nowhere else.
@@ -104,11 +104,11 @@ pub fn answer_alone<S: Shelf, K: Rack, W: Sink, E: Sink>(
     ensures check { AsksCheck (form_of (map string_bytes words.now)) → (rack.new ≡ rack.old) × (result.drives.items ≡ []) }
     ensures early { IsEarly result.status → rack.new ≡ rack.old }
     // A count that has risen is answered as that failure: at every other status, want of memory among them, the counts of
-    // the shelf, the rack and the output stand, and of the drives of an answer none has failed but the one that is named.
+    // the shelf, the rack and the output stand, and of the drives none has failed but the one that is named.
     ensures shelf { result.status ≢ Status.ShelfFault → Stands (S.faults shelf.old) (S.faults shelf.new) }
     ensures rack { result.status ≢ Status.DriveFault None → Stands (K.faults rack.old) (K.faults rack.new) }
     ensures out { result.status ≢ Status.SinkFault → Stands (W.faults out.old) (W.faults out.new) }
-    ensures others { AsksAlone (form_of (map string_bytes words.now)) → NoOtherFailed K.Drive.Drive (named_drive result.status) result.drives.items }
+    ensures others { NoOtherFailed K.Drive.Drive (named_drive result.status) result.drives.items }
     ensures count { IsCount (length result.drives.items) }
 {
     let outcome = run(alloc, words, shelf, rack, out);

@@ -1,7 +1,9 @@
 //! The plans of statements over tables on drives.
 ghost use Rattle.std.specs.Prelude.{◌≡◌, ◌≤◌, ℕ, IfOk, IfErr, All, length, map};
+ghost use Rattle.heap_page.specs.Stores.{AreQuiet, store_fault};
 ghost use Rattle.rows.specs.declared.plain.Relation.{Relation};
 ghost use Rattle.table_store.specs.Databases.{AllFresh, AreKept, IsLaidOut, LayoutCause, MayStore};
+ghost use Rattle.xprs_top.specs.Counts.{NoOtherFailed, failed_drive};
 ghost use Rattle.xprs_top.specs.declared.goal.Goal.TheVariants.{Plans};
 ghost use Rattle.xprs_top.specs.Devices.{Makes};
 ghost use Rattle.xprs_top.specs.Inputs.{read_of};
@@ -59,6 +61,7 @@ fn lay_counted<D: Drive>(
     ensures kept { AreKept D.Drive drives.old drives.new }
     ensures laid { IfOk result (λ c. IsLaidOut D.Drive catalog.now db drives.old drives.new c.laid) }
     ensures rows { IfOk result (λ c. c.rows.items ≡ map (λ t. length t.rows) db) }
+    ensures quiet { AreQuiet D.Drive (store_fault result) drives.old drives.new }
     ensures err { IfErr result (LayoutCause D.Drive catalog.now db drives.old drives.new) }
 {
     let rows = row_counts(alloc, &db)?;
@@ -88,6 +91,7 @@ pub(crate) fn explained<D: Drive>(
     requires answerable { IsAnswerable checked.now db }
     ensures count { length result.drives.items ≡ 4 }
     ensures made { (before now : ℕ) → Makes D.Drive (over (Plans method) (read_of checked.now) db) before now result.drives.items result.text }
+    ensures quiet { NoOtherFailed D.Drive (failed_drive result.text) result.drives.items }
 {
     let mut drives = drives;
     let Counted { laid, rows } = match lay_counted(

@@ -3,8 +3,7 @@ ghost use Rattle.std.specs.Prelude.{◌≡◌, ◌≢◌, ℕ, [], Err, None, le
 ghost use Rattle.xp_outside.specs.Outside.{Stands};
 ghost use Rattle.xprs_top.specs.declared.status.Status.TheVariants as status;
 ghost use Rattle.table_store.specs.Databases.{AllFresh};
-ghost use Rattle.xprs_top.specs.Counts.{IsAnswering, NoOtherFailed, failed_drive};
-ghost use Rattle.xprs_top.specs.declared.goal.Goal.TheVariants.{Answers};
+ghost use Rattle.xprs_top.specs.Counts.{NoOtherFailed, failed_drive};
 ghost use Rattle.xprs_top.specs.Devices.{IsCount, Makes};
 ghost use Rattle.xprs_top.specs.Inputs.{job_of, read_of};
 ghost use Rattle.xprs_top.specs.Readings.{over};
@@ -37,7 +36,7 @@ fn on_drives<D: Drive>(
     requires answerable { IsAnswerable checked.now db }
     ensures count { length result.drives.items ≡ 4 }
     ensures made { (before now : ℕ) → Makes D.Drive (over goal (read_of checked.now) db) before now result.drives.items result.text }
-    ensures others { goal ≡ Answers → NoOtherFailed D.Drive (failed_drive result.text) result.drives.items }
+    ensures others { NoOtherFailed D.Drive (failed_drive result.text) result.drives.items }
 {
     match goal {
         Goal::Answers => answered(alloc, drives, checked, db),
@@ -56,7 +55,7 @@ fn over_tables<K: Rack>(
     requires { IsAnswerable checked.now db }
     ensures made { Makes K.Drive.Drive (over goal (read_of checked.now) db) (K.faults rack.old) (K.faults rack.new) result.drives.items result.text }
     ensures quiet { result.text ≢ Err (status.DriveFault None) → Stands (K.faults rack.old) (K.faults rack.new) }
-    ensures others { goal ≡ Answers → NoOtherFailed K.Drive.Drive (failed_drive result.text) result.drives.items }
+    ensures others { NoOtherFailed K.Drive.Drive (failed_drive result.text) result.drives.items }
     ensures count { IsCount (length result.drives.items) }
 {
     match rack.mount(alloc, DRIVES) {
@@ -71,7 +70,7 @@ pub(crate) fn make<K: Rack>(alloc: Global, rack: &mut K, task: Task) -> Made<K::
     requires { IsReady task }
     ensures made { Makes K.Drive.Drive (job_of task) (K.faults rack.old) (K.faults rack.new) result.drives.items result.text }
     ensures quiet { result.text ≢ Err (status.DriveFault None) → Stands (K.faults rack.old) (K.faults rack.new) }
-    ensures others { IsAnswering task → NoOtherFailed K.Drive.Drive (failed_drive result.text) result.drives.items }
+    ensures others { NoOtherFailed K.Drive.Drive (failed_drive result.text) result.drives.items }
     ensures count { IsCount (length result.drives.items) }
     ensures print { IsPrint task → (rack.new ≡ rack.old) × (result.drives.items ≡ []) }
 {

@@ -6,8 +6,6 @@ ghost use Rattle.catalog_load.specs.Limits.{HasLimits};
 ghost use Rattle.postquel.specs.Print.{script_text};
 ghost use Rattle.postquel.specs.Program.{program_of};
 ghost use Rattle.table_store.specs.Databases.{MayStore};
-ghost use Rattle.xprs_top.specs.Counts.{IsAlone, IsAnswering};
-ghost use Rattle.xprs_top.specs.declared.goal.Goal.TheVariants.{Answers};
 ghost use Rattle.xprs_top.specs.Inputs.{Finds, Told, job_of, read_of};
 ghost use Rattle.xprs_top.specs.Readings.{IsJob, Just, bind, is_unbuilt, over_tables, tables_of, write};
 ghost use Rattle.xprs_top.specs.Runs.{IsCheck};
@@ -56,7 +54,6 @@ fn built_task(goal: Goal, checked: Checked, db: Database) -> Result<Task, Status
     requires stored { MayStore checked.catalog db }
     ensures value { Finds job_of result (Just (over_tables goal (read_of checked) db)) }
     ensures ready { IfOk result IsReady }
-    ensures answers { goal ≡ Answers → IfOk result IsAnswering }
 {
     if has_unbuilt(&checked.read.script) {
         return Err(Status::NotBuilt);
@@ -79,7 +76,6 @@ fn tables_task<S: Shelf>(
     ensures quiet { result ≢ Err status.ShelfFault → Stands (S.faults shelf.old) (S.faults shelf.new) }
     ensures told { Told (S.files shelf.old) (S.faults shelf.old) (S.faults shelf.new) job_of result (λ files. Just (bind (tables_of files checked.catalog) (over_tables goal (read_of checked)))) }
     ensures ready { IfOk result IsReady }
-    ensures answers { goal ≡ Answers → IfOk result IsAnswering }
 {
     let db = read_tables(alloc, shelf, &checked.catalog)?;
     built_task(goal, checked, db)
@@ -97,7 +93,6 @@ pub(crate) fn read_task<S: Shelf>(
     ensures told { Told (S.files shelf.old) (S.faults shelf.old) (S.faults shelf.new) job_of result (λ files. IsJob files (request_of operands.now)) }
     ensures ready { IfOk result IsReady }
     ensures print { IsCheck operands.now.verb → IfOk result IsPrint }
-    ensures answers { IsAlone operands.now.verb → IfOk result IsAnswering }
 {
     let checked = read_checked(alloc, shelf, operands)?;
     match operands.verb {

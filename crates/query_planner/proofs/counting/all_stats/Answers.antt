@@ -1,9 +1,10 @@
-use Rattle.std.proofs.Common.{◌≡◌, ◌+◌, ◌∙◌, ℕ, [], ◌∷◌, ◌++◌, ap, arith, length, length-append, IfSome}
+use Rattle.std.proofs.Common.{◌≡◌, ◌+◌, ◌∙◌, ℕ, None, [], ◌∷◌, ◌++◌, ap, arith, length, length-append, IfSome}
 use Rattle.std.proofs.lemmas.List.Elements.{All-push}
 use Rattle.seq_optimizer.specs.Costs.{IsInterval}
 use Rattle.seq_optimizer.specs.declared.stats.VarStats.{VarStats}
 use Rattle.std.proofs.lemmas.Result.{err_from_is_err_and}
 use Rattle.rel_meaning.specs.Expression.{question_of}
+use Rattle.heap_page.proofs.Calm.{calm_then}
 use Rattle.query_planner.proofs.Left.{one_left}
 use Rattle.query_planner.proofs.SoFar.{all_counted, one_counted, var_there}
 use Rattle.query_planner.proofs.counting.all_stats.Goals as goal
@@ -25,6 +26,7 @@ loop-var-preserved g c =
     record {
       whole = step.whole ∙ inv.whole;
       counts = λ d. omega (arith, inv.counts d, step.counts d);
+      calm = calm_then g.P.PageSource.lone (g.P.PageSource.whole c.args.pages.now) (g.P.PageSource.whole c.loop-var.pages) None (g.P.PageSource.faults c.args.pages.now) (g.P.PageSource.faults c.loop-var.pages) (g.P.PageSource.faults c.stats_of.new.pages) inv.whole inv.calm step.quiet;
       count = ap length items ∙ (length-append stats (s ∷ []) ∙ ap (λ (n : ℕ). n + 1) inv.count);
       within = rw items (All-push (λ (x : VarStats). IfSome x.interval IsInterval) stats s inv.within step.within);
       left = rw items (one_left c.args.known.now.relations.now c.args.known.now.laid.now (g.P.PageSource.image (g.P.PageSource.whole c.args.pages.now)) (question_of c.args.query.now) stats c.loop-var.var s inv.count inv.left (rw inv.whole at step.left));
@@ -39,3 +41,8 @@ pub returns-clause-told : goal.returns-clause-told
 returns-clause-told g c = λ tables tells.
     let count : length c.loop-var.stats.items ≡ length c.args.query.now.vars = omega (arith, c.loop-var.invariant.count) in
     rw c.from_vec.ensures (all_counted c.args.known.now.relations.now tables (question_of c.args.query.now) c.loop-var.stats.items count (c.loop-var.invariant.told tables tells))
+
+pub returns-in_err-stats_of-clause-quiet : goal.returns-in_err-stats_of-clause-quiet
+returns-in_err-stats_of-clause-quiet g c =
+    let p = err_from_is_err_and c.from_residual.result c.from_residual.ensures.1 in
+    rw (p.1, p.2) (calm_then g.P.PageSource.lone (g.P.PageSource.whole c.args.pages.now) (g.P.PageSource.whole c.loop-var.pages) _ (g.P.PageSource.faults c.args.pages.now) (g.P.PageSource.faults c.loop-var.pages) (g.P.PageSource.faults c.stats_of.new.pages) c.loop-var.invariant.whole c.loop-var.invariant.calm c.in_err-stats_of.ensures.quiet)

@@ -1,5 +1,6 @@
-use Rattle.std.proofs.Common.{◌≡◌, ◌≤◌, ℕ, List, length, IfSome}
+use Rattle.std.proofs.Common.{◌≡◌, ◌≤◌, ℕ, List, None, length, IfSome}
 use Rattle.std.specs.Prelude.{All}
+use Rattle.heap_page.specs.Sources.{AreCalm}
 use Rattle.rel_meaning.specs.Expression.{question_of}
 use Rattle.seq_optimizer.specs.Costs.{IsInterval}
 use Rattle.table_store.specs.declared.files.StoredTable.{StoredTable}
@@ -12,6 +13,7 @@ abbrev pub invariant-loop-var : goal.invariant-loop-var
 invariant-loop-var g l = record {
   whole : g.P.PageSource.whole l.pages ≡ g.P.PageSource.whole l.fn.pages;
   counts : (d : ℕ) → g.P.PageSource.faults l.fn.pages d ≤ g.P.PageSource.faults l.pages d;
+  calm : AreCalm (g.P.PageSource.lone (g.P.PageSource.whole l.fn.pages)) None (g.P.PageSource.faults l.fn.pages) (g.P.PageSource.faults l.pages);
   count : length l.stats.items ≡ l.var;
   within : All (λ s. IfSome s.interval IsInterval) l.stats.items;
   left : AreLeft l.known.relations.now l.known.laid.now (g.P.PageSource.image (g.P.PageSource.whole l.fn.pages)) (question_of l.query) l.stats.items;

@@ -5,6 +5,7 @@ use Rattle.buffer_pool.specs.Images.{image_on}
 use Rattle.buffer_pool.specs.Lone.{count_at, drives_of, map_of}
 use Rattle.buffer_pool.specs.declared.mounted.Mounted.{Mounted}
 use Rattle.heap_page.specs.declared.errors.FetchErr.TheVariants.{BadPage}
+use Rattle.heap_page.specs.Stores.{fetch_fault}
 use Rattle.key_index.specs.Searches.{NotBad}
 use Rattle.plan_tree.specs.Views.{planned_of}
 use Rattle.rel_meaning.specs.Expression.{question_of}
@@ -12,7 +13,7 @@ use Rattle.query_planner.specs.Causes.{PlanCause, ReadCause}
 use Rattle.query_planner.specs.Plans.{AreBestPlans, ArePlannedOver}
 use Rattle.query_planner.specs.Stored.{AreOf}
 use Rattle.query_planner.specs.Told.{AreTold}
-use Rattle.query_planner.proofs.Causing.{of_drives}
+use Rattle.query_planner.proofs.Causing.{of_drives, quiet_of}
 use Rattle.query_planner.proofs.Telling.{tells}
 use Rattle.query_planner.proofs.planning.plan_queries.Goals as goal
 
@@ -50,3 +51,7 @@ returns-clause-err g c =
 pub returns-clause-trees : goal.returns-clause-trees
 returns-clause-trees g c =
     subst (λ (image : Option (ℕ → ℕ → List ℕ)). IfOk c.plans_of-plans.result (λ plans. ArePlannedOver c.args.relations.now c.args.laid.now image c.args.method (map question_of c.args.queries.now) (map planned_of plans))) c.in-Ok.ensures.image c.plans_of-plans.ensures.trees
+
+pub returns-clause-quiet : goal.returns-clause-quiet
+returns-clause-quiet g c =
+    quiet_of g.D.Drive (fetch_fault c.plans_of-plans.result) c.args.drives.items c.into_drives.result.items c.in-Ok.pool.shards.items c.plans_of-plans.new.pages.shards.items c.in-Ok.ensures.new.same c.into_drives.ensures.drives c.plans_of-plans.ensures.quiet

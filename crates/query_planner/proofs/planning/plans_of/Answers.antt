@@ -1,4 +1,4 @@
-use Rattle.std.proofs.Common.{◌≡◌, ◌+◌, ◌∙◌, ℕ, Option, Some, List, [], ◌∷◌, ◌++◌, ap, arith, length, length-append, map}
+use Rattle.std.proofs.Common.{◌≡◌, ◌+◌, ◌∙◌, ℕ, None, Option, Some, List, [], ◌∷◌, ◌++◌, ap, arith, length, length-append, map}
 use Rattle.std.specs.Prelude.{option_map, slice_get}
 use Rattle.std.proofs.lemmas.List.{length-map, map-append}
 use Rattle.std.proofs.lemmas.Option.{slice_get-map}
@@ -8,6 +8,7 @@ use Rattle.plan_tree.specs.Views.{planned_of}
 use Rattle.heap_page.proofs.Found.{some_at}
 use Rattle.rel_meaning.specs.declared.query.Query.{Query}
 use Rattle.rel_meaning.specs.Expression.{question_of}
+use Rattle.heap_page.proofs.Calm.{calm_then}
 use Rattle.query_planner.proofs.Left.{one_over}
 use Rattle.query_planner.proofs.SoFar.{all_planned, one_planned}
 use Rattle.query_planner.proofs.planning.plans_of.Goals as goal
@@ -32,6 +33,7 @@ loop-query-preserved g c =
     record {
       whole = step.whole ∙ inv.whole;
       counts = λ d. omega (arith, inv.counts d, step.counts d);
+      calm = calm_then g.P.PageSource.lone (g.P.PageSource.whole c.args.pages.now) (g.P.PageSource.whole c.loop-query.pages) None (g.P.PageSource.faults c.args.pages.now) (g.P.PageSource.faults c.loop-query.pages) (g.P.PageSource.faults c.plan_of.new.pages) inv.whole inv.calm step.quiet;
       count = ap length items ∙ (length-append plans (plan ∷ []) ∙ ap (λ (n : ℕ). n + 1) inv.count);
       trees =
           let more : map planned_of c.push.new.self.items ≡ map planned_of plans ++ planned_of plan ∷ [] = ap (λ (ps : List Plan). map planned_of ps) items ∙ map-append planned_of plans (plan ∷ []) in
@@ -57,3 +59,8 @@ returns-clause-trees g c =
     let plans = c.loop-query.plans.items in
     let count : length (map planned_of plans) ≡ length (map question_of queries) = omega (arith, length-map plans planned_of, length-map queries question_of, c.loop-query.invariant.count) in
     rw c.from_vec.ensures (record { count = count; each = c.loop-query.invariant.trees })
+
+pub returns-in_err-plan_of-clause-quiet : goal.returns-in_err-plan_of-clause-quiet
+returns-in_err-plan_of-clause-quiet g c =
+    let p = err_from_is_err_and c.from_residual.result c.from_residual.ensures.1 in
+    rw (p.1, p.2) (calm_then g.P.PageSource.lone (g.P.PageSource.whole c.args.pages.now) (g.P.PageSource.whole c.loop-query.pages) _ (g.P.PageSource.faults c.args.pages.now) (g.P.PageSource.faults c.loop-query.pages) (g.P.PageSource.faults c.plan_of.new.pages) c.loop-query.invariant.whole c.loop-query.invariant.calm c.in_err-plan_of.ensures.quiet)

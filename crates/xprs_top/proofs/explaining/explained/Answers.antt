@@ -1,9 +1,13 @@
 use Rattle.std.proofs.Common.{◌≡◌, ◌∙◌, sym, subst, ap, length, drop, take, ◌++◌, arith, Err}
 use Rattle.table_store.specs.Databases.{AllFresh}
+use Rattle.heap_page.specs.Stores.{AreQuiet, AreRead, fetch_fault}
+use Rattle.heap_page.proofs.Drives.{quiet_trans}
+use Rattle.xprs_top.specs.Counts.{NoOtherFailed, named_drive}
 use Rattle.xprs_top.specs.declared.goal.Goal.TheVariants.{Plans}
 use Rattle.xprs_top.specs.Devices.{Makes}
 use Rattle.xprs_top.specs.Inputs.{read_of}
 use Rattle.xprs_top.specs.Readings.{over}
+use Rattle.xprs_top.proofs.Counts.{fresh_stay, named_by, named_plans, named_store}
 use Rattle.xprs_top.proofs.Devices.{lay_made, whole_slice}
 use Rattle.xprs_top.proofs.Explained.{counted, made_plans, stands}
 use Rattle.xprs_top.proofs.explaining.explained.Goals as goal
@@ -54,3 +58,30 @@ returns-clause-made g c = λ before now.
     (rw (← whole, ← four, ← c.items-queries.ensures) c.plan_queries-plans.ensures.plans)
     (rw (← whole, ← four) c.plan_queries-plans.ensures.accepted)
     (rw (← whole) c.plan_queries-plans.ensures.err) c.plans_text.ensures
+
+pub returns-in-Err-clause-quiet : goal.returns-in-Err-clause-quiet
+returns-in-Err-clause-quiet g c =
+    let olds = c.as_mut_slice.result.now in
+    let mids = c.lay_counted.new.drives in
+    let count : length olds ≡ 4 = ap length c.as_mut_slice.ensures.value ∙ c.requires.count in
+    let fresh : AllFresh g.D.Drive olds = rw c.as_mut_slice.ensures.value c.requires.fresh in
+    let same : c.args.drives.len ≡ length mids = omega (arith, c.in-Err.ensures.kept.len, count, c.requires.count, c.args.drives.ok) in
+    subst (λ ds. NoOtherFailed g.D.Drive (named_drive c.from.result) ds) (sym (whole_slice c.args.drives.len mids (drop (length mids) c.args.drives.items) same))
+    (named_by g.D.Drive c.from.result _ mids (ap named_drive c.from.ensures ∙ named_store c.in-Err.error)
+    (fresh_stay g.D.Drive _ olds mids c.in-Err.ensures.kept.len fresh c.in-Err.ensures.quiet))
+
+pub returns-clause-quiet : goal.returns-clause-quiet
+returns-clause-quiet g c =
+    let olds = c.as_mut_slice.result.now in
+    let mids = c.lay_counted.new.drives in
+    let plans = c.plan_queries-plans.result.plans in
+    let back = c.plan_queries-plans.result.drives.items in
+    let count : length olds ≡ 4 = ap length c.as_mut_slice.ensures.value ∙ c.requires.count in
+    let fresh : AllFresh g.D.Drive olds = rw c.as_mut_slice.ensures.value c.requires.fresh in
+    let same : c.args.drives.len ≡ length mids = omega (arith, c.in-Ok.ensures.kept.len, count, c.requires.count, c.args.drives.ok) in
+    let whole = whole_slice c.args.drives.len mids (drop (length mids) c.args.drives.items) same in
+    let read : AreRead g.D.Drive mids back = rw (← whole) c.plan_queries-plans.ensures.read in
+    let quiet : AreQuiet g.D.Drive (fetch_fault plans) mids back = rw (← whole) c.plan_queries-plans.ensures.quiet in
+    subst (λ fault. NoOtherFailed g.D.Drive fault back) (sym (named_plans plans c.plans_text.result c.plans_text.ensures))
+    (fresh_stay g.D.Drive (fetch_fault plans) olds back (read.len ∙ c.in-Ok.ensures.kept.len) fresh
+    (quiet_trans g.D.Drive (fetch_fault plans) olds mids back c.in-Ok.ensures.kept.len c.in-Ok.ensures.quiet quiet))

@@ -1,7 +1,7 @@
 use Rattle.std.proofs.Common.{rules, length, drop, refl, subst}
 use Rattle.buffer_pool.specs.Lone.{IsTurnAt, map_of}
 use Rattle.buffer_pool.specs.declared.place.Place.{Place}
-use Rattle.buffer_pool.proofs.Alone.{answered, counts_on, place_same, still, within}
+use Rattle.buffer_pool.proofs.Alone.{answered, calm, counts_on, place_same, still, within}
 use Rattle.buffer_pool.proofs.Lists.{front_is}
 use Rattle.buffer_pool.proofs.lone.LonePoolPageSource.fetch.Goals as goal
 
@@ -41,3 +41,10 @@ returns-clause-turn g c = λ place placed.
     let after = front_is c.fetch_from.new.shards (drop (length c.fetch_from.new.shards) c.args.self.now.shards.items) c.args.self.now.shards.len (search (rules, on.len)) in
     let same = place_same (map_of c.args.self.now.mounted) c.args.file c.args.page c.place_of-place.result place c.requires c.place_of-place.ensures placed in
     rw after (subst (λ (p : Place). IsTurnAt p c.args.file c.args.page c.args.self.now.shards.items c.fetch_from.new.shards c.fetch_from.result) same (rw c.deref_mut.ensures.value at c.fetch_from.ensures.turn))
+
+pub returns-clause-quiet : goal.returns-clause-quiet
+returns-clause-quiet g c =
+    let on = rw c.deref_mut.ensures.value at c.fetch_from.ensures.on in
+    let after = front_is c.fetch_from.new.shards (drop (length c.fetch_from.new.shards) c.args.self.now.shards.items) c.args.self.now.shards.len (search (rules, on.len)) in
+    calm c.args.self.now.mounted c.args.self.now.shards.items c.fetch_from.new.shards _ c.args.file c.args.page c.place_of-place.result c.fetch_from.result after
+    c.args.self.now.sound c.place_of-place.ensures on (rw c.deref_mut.ensures.value at c.fetch_from.ensures.quiet) (rw c.deref_mut.ensures.value at c.fetch_from.ensures.fetched)
