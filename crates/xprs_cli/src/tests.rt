@@ -131,6 +131,11 @@ fn a_writer_gets_all_or_its_failure_is_told(rt: HostRuntime) -> Result<(), Fail>
     Ok(())
 }
 
+// Drives that threads may share: the compiler refuses any others.
+fn are_shared<D: Drive + Send + Sync>(_drives: &[D]) -> bool {
+    true
+}
+
 #[test]
 fn a_drive_gives_back_each_of_its_pages(rt: HostRuntime) -> Result<(), Fail> {
     let mut rack = FileRack::new(&rt);
@@ -138,6 +143,7 @@ fn a_drive_gives_back_each_of_its_pages(rt: HostRuntime) -> Result<(), Fail> {
         return Err(Fail::from(AllocError));
     };
     fs::remove_file(&rt, "drive0.xprs")?;
+    assert!(rt; are_shared(drives.as_slice()));
     let drive = &mut drives[0];
     assert_eq!(rt; drive.capacity(), PAGES);
     let mut page = [7u8; PAGE];
