@@ -3,3 +3,4 @@ pub mod Matched
 pub mod Places
 pub mod Runs
 pub mod Stable
+pub mod Starts

@@ -1,5 +1,5 @@
--- The hash of a key, and the bucket in which a key is looked for.
-use Rattle.std.specs.Prelude.{ℕ, ◌%◌, true, false, List, []}
+-- The hash of a key, and the bucket of a hash.
+use Rattle.std.specs.Prelude.{ℕ, ◌*◌, ◌/◌, ◌^◌, true, false, List, []}
 use Rattle.std.specs.List.{flat_map, fold}
 use Rattle.std.specs.Hash as fed
 use Rattle.std.specs.Hash.FoldHasher as folding
@@ -18,6 +18,6 @@ writes_of (Truth false) = fed.u8 0
 abbrev pub hash_of : List Value → ℕ
 hash_of key = folding.finish (fold folding.write folding.initial (flat_map writes_of key))
 
--- the bucket of a key, out of so many
-abbrev pub bucket_of : ℕ → List Value → ℕ
-bucket_of count key = hash_of key % count
+-- the bucket of a hash, out of so many: buckets are equal shares of all hashes, in order
+abbrev pub bucket_of : ℕ → ℕ → ℕ
+bucket_of count hash = ((hash / 2 ^ 32) * count) / 2 ^ 32

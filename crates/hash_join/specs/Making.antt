@@ -1,34 +1,39 @@
--- The steps in which buckets are made.
-use Rattle.std.specs.Prelude.{◌≡◌, ◌≤◌, ◌<◌, ◌==◌, ℕ, List, [], filter, length, slice_index_or}
-use Rattle.std.specs.List.Sorted.{IsSortedBy}
+-- The steps in which a table is made.
+use Rattle.std.specs.Prelude.{◌≡◌, ℕ, Bool, List, filter, map}
+use Rattle.std.specs.List.Sorted.{IsPermutation, IsSortedBy, IsStableBy}
+use Rattle.std.specs.Ordering.{is_lt, nat_cmp}
 use Rattle.rows.specs.declared.value.Value.{Value}
+use Rattle.hash_join.specs.declared.buckets.Entry.{Entry}
 use Rattle.hash_join.specs.declared.table.RowPlace.{RowPlace}
-use Rattle.hash_join.specs.Hash.{bucket_of}
-use Rattle.hash_join.specs.Found.{is_below}
-use Rattle.hash_join.specs.Table.{Table, row_at, key_of, has_key}
+use Rattle.hash_join.specs.Found.{comes_first, entry_cmp, hash_at, key_at}
+use Rattle.hash_join.specs.Table.{Table, has_key}
 
--- the bucket of the row at a place
-abbrev pub bucket_at : Table → ℕ → RowPlace → ℕ
-bucket_at table count at = bucket_of count (key_of table.columns (row_at table.lists at))
+-- a place with the hash of the key of its row
+abbrev pub entry_of : Table → RowPlace → Entry
+entry_of table at = record { hash = hash_at table at; at = at }
 
--- each of some places stands in its bucket, in order
-pub record AreSpread (table : Table) (count : ℕ) (places : List RowPlace) (buckets : List (List RowPlace)) : Type 0 where
-  pub size : length buckets ≡ count
-  pub each : (number : ℕ) → number < count → slice_index_or buckets number [] ≡ filter (λ at. bucket_at table count at == number) places
+-- the places of entries
+abbrev pub places_in_order : List Entry → List RowPlace
+places_in_order entries = map (λ entry. entry.at) entries
 
--- the same places by their keys, those of equal keys in the same order
-pub record IsOrdered (table : Table) (before after : List RowPlace) : Type 0 where
-  pub sorted : IsSortedBy (is_below table) after
-  pub found : (key : List Value) → filter (has_key table key) after ≡ filter (has_key table key) before
+abbrev pub has_less_hash : Entry → Entry → Bool
+has_less_hash a b = is_lt (nat_cmp a.hash b.hash)
 
--- the places of one bucket are ordered, and the other buckets stay
-pub record AreOrderedAt (table : Table) (number : ℕ) (before after : List (List RowPlace)) : Type 0 where
-  pub size : length after ≡ length before
-  pub here : IsOrdered table (slice_index_or before number []) (slice_index_or after number [])
-  pub others : (k : ℕ) → (k ≡ number → ⊥) → slice_index_or after k [] ≡ slice_index_or before k []
+-- an entry's hash and the key of its row
+abbrev pub pair_of : Table → Entry → ℕ × List Value
+pair_of table entry = (entry.hash, key_at table entry.at)
 
--- the buckets of which those below a number are ordered
-pub record AreOrdered (table : Table) (number : ℕ) (before after : List (List RowPlace)) : Type 0 where
-  pub size : length after ≡ length before
-  pub done : (k : ℕ) → k < number → IsOrdered table (slice_index_or before k []) (slice_index_or after k [])
-  pub left : (k : ℕ) → number ≤ k → slice_index_or after k [] ≡ slice_index_or before k []
+abbrev pub goes_first : Table → Entry → Entry → Bool
+goes_first table a b = is_lt (entry_cmp (pair_of table a) (pair_of table b))
+
+-- the same elements in the order of a test, those of which neither goes first as they stood
+pub record IsSorting {X : Type 0} (test : X → X → Bool) (before after : List X) : Type 0 where
+  pub same : IsPermutation before after
+  pub sorted : IsSortedBy test after
+  pub stable : IsStableBy test before after
+
+-- entries of some places, by their hashes and then by the keys of their rows, those of equal keys as they stood
+pub record AreOrdered (table : Table) (before : List RowPlace) (entries : List Entry) : Type 0 where
+  pub are : entries ≡ map (entry_of table) (places_in_order entries)
+  pub sorted : IsSortedBy (comes_first table) (places_in_order entries)
+  pub found : (key : List Value) → filter (has_key table key) (places_in_order entries) ≡ filter (has_key table key) before

@@ -1,5 +1,5 @@
 //! The bucket in which a key is looked for.
-ghost use Rattle.std.specs.Prelude.{◌≡◌, ◌<◌};
+ghost use Rattle.std.specs.Prelude.{◌≡◌, ◌<◌, ◌^◌};
 ghost use Rattle.std.specs.List.{fold};
 ghost use Rattle.std.specs.Hash.FoldHasher as folding;
 ghost use Rattle.rows.specs.Values.{column_of};
@@ -32,7 +32,7 @@ fn feed_column(state: &mut FoldHasher, row: &[Value], column: usize)
 }
 
 // The hash of a row's values in columns.
-fn hash_in(row: &[Value], columns: &[usize]) -> u64
+pub(crate) fn hash_in(row: &[Value], columns: &[usize]) -> u64
     ensures { result ≡ hash_of (key_of columns.now row.now) }
 {
     let mut state = FoldHasher::default();
@@ -43,7 +43,7 @@ fn hash_in(row: &[Value], columns: &[usize]) -> u64
 }
 
 // The hash of a key.
-fn hash_key(key: &[Value]) -> u64
+pub(crate) fn hash_key(key: &[Value]) -> u64
     ensures { result ≡ hash_of key.now }
 {
     let mut state = FoldHasher::default();
@@ -53,20 +53,11 @@ fn hash_key(key: &[Value]) -> u64
     state.finish()
 }
 
-// The bucket, out of `count`, of the key that has a row's values in columns.
-pub(crate) fn bucket_in(row: &[Value], columns: &[usize], count: usize) -> usize
-    requires { 0 < count }
-    ensures number { result ≡ bucket_of count (key_of columns.now row.now) }
-    ensures within { result < count }
+// The bucket, out of `count`, of a hash. The buckets rise with the hashes.
+pub(crate) fn bucket_of(hash: u64, count: usize) -> usize
+    requires { count < 2 ^ 32 }
+    ensures number { result ≡ bucket_of count hash }
+    ensures within { 0 < count → result < count }
 {
-    (hash_in(row, columns) % count as u64) as usize
-}
-
-// The bucket of a key, out of `count`.
-pub(crate) fn bucket_for(key: &[Value], count: usize) -> usize
-    requires { 0 < count }
-    ensures number { result ≡ bucket_of count key.now }
-    ensures within { result < count }
-{
-    (hash_key(key) % count as u64) as usize
+    (((hash >> 32) * count as u64) >> 32) as usize
 }

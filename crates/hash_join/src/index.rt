@@ -1,13 +1,12 @@
 //! The places of rows, in the order of their keys.
-ghost use Rattle.std.specs.Prelude.{◌≡◌, ◌++◌, map, filter, IfOk, OnOk, length, slice_index_or};
+ghost use Rattle.std.specs.Prelude.{◌≡◌, ◌++◌, map, filter, IfOk, OnOk};
 ghost use Rattle.std.specs.List.{range_with_len};
 ghost use Rattle.std.specs.List.Sorted.{IsSortedBy};
 ghost use Rattle.hash_join.specs.Table.{Table, place_at, places, has_key, key_of};
 ghost use Rattle.hash_join.specs.Found.{is_below};
-ghost use Rattle.hash_join.specs.Making.{IsOrdered};
 
 use crate::RowPlace;
-use crate::key::{key_order, keys_order, row_at, sides_order};
+use crate::key::{key_order, row_at, sides_order};
 use rows::{Rows, Value};
 use std::alloc::{AllocError, Global};
 use std::sync::Arc;
@@ -31,18 +30,6 @@ pub(crate) fn all_places(alloc: Global, parts: &[Arc<Rows>]) -> Result<Vec<RowPl
         put_places(&mut index, position, parts[position].len())?;
     }
     Ok(index)
-}
-
-// Puts places in the order of the keys of their rows, and leaves those of equal keys as they stand.
-pub(crate) fn order_places(
-    bucket: &mut Vec<RowPlace>,
-    parts: &[Arc<Rows>],
-    columns: &[usize],
-) -> Result<(), AllocError>
-    ensures { OnOk result (IsOrdered (record { lists = map (λ x. x.value) parts.now; columns = columns.now }) bucket.old.items bucket.new.items) }
-{
-    bucket.sort_by(|a, b| keys_order(row_at(parts, *a), row_at(parts, *b), columns))?;
-    Ok(())
 }
 
 // The places of the rows with a key, out of places in the order of their keys.

@@ -4,7 +4,7 @@ ghost use Rattle.hash_join.specs.Table.{IsPlace, key_of, matching, row_at, rows_
 ghost use Rattle.std.specs.List.{All};
 
 use crate::Parts;
-use crate::buckets::{places_for, places_with};
+use crate::buckets::{Buckets, places_for, places_with};
 use crate::key::{holds_null, null_within};
 use lists::Sequence;
 use rows::{Row, Value};
@@ -24,7 +24,7 @@ pub struct RowPlace {
 pub struct Built {
     pub(crate) parts: Parts,
     pub(crate) columns: Vec<usize>,
-    pub(crate) buckets: Vec<Vec<RowPlace>>,
+    pub(crate) buckets: Buckets,
 }
 
 /// Built values that are shared.
@@ -36,13 +36,13 @@ pub type Inputs = Sequence<Arc<Built>>;
 impl Model for Built {
     ghost use Rattle.std.specs.Prelude.{map};
     ghost use Rattle.hash_join.specs.Table.{Table};
-    ghost use Rattle.hash_join.specs.Found.{AreBuckets};
+    ghost use Rattle.hash_join.specs.Found.{AreFound};
 
     ghost Value = { Table };
 
     ghost view = { λ b. record { lists = b.parts; columns = b.columns.items } };
 
-    ghost invariant = { λ b. AreBuckets (record { lists = b.parts; columns = b.columns.items }) (map (λ x. x.items) b.buckets.items) };
+    ghost invariant = { λ b. AreFound (record { lists = b.parts; columns = b.columns.items }) b.buckets.places.items b.buckets.hashes.items b.buckets.starts.items };
 }
 
 impl Built {
@@ -53,7 +53,7 @@ impl Built {
         if holds_null(key) {
             return &[];
         }
-        let buckets = self.buckets.as_slice();
+        let buckets = &self.buckets;
         places_with(self.parts.items(), self.columns.as_slice(), buckets, key)
     }
 
@@ -64,7 +64,7 @@ impl Built {
         if null_within(row, columns) {
             return &[];
         }
-        let buckets = self.buckets.as_slice();
+        let buckets = &self.buckets;
         places_for(
             self.parts.items(),
             self.columns.as_slice(),

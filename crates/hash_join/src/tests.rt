@@ -98,6 +98,22 @@ fn matched(alloc: Global, vars: &[u32], key: &str) -> Result<Vec<i64>, AllocErro
     found(alloc, &built, &key)
 }
 
+// The rows that match another row's values in columns, one after the other.
+fn found_in(
+    alloc: Global,
+    vars: &[u32],
+    text: &str,
+    columns: &[usize],
+) -> Result<Vec<i64>, AllocError> {
+    let mut out = Vec::new(alloc);
+    let other = row(alloc, text)?;
+    let built = keyed(alloc, vars)?;
+    for at in built.matches_in(other.items(), columns) {
+        spell(&mut out, built.row(*at))?;
+    }
+    Ok(out)
+}
+
 // The rows of an arranged value, one after the other.
 fn all(alloc: Global, built: &Built) -> Result<Vec<i64>, AllocError>
     requires { length built.now.lists ≡ 1 }
@@ -137,6 +153,45 @@ fn rows_match_by_their_keys(rt: HostRuntime) -> Result<(), Fail> {
     for (vars, key, wanted) in table {
         assert_eq!(rt; matched(rt.alloc(), vars, key)?.as_slice(), wanted);
     }
+    Ok(())
+}
+
+#[test]
+fn rows_match_by_columns_of_another_row(rt: HostRuntime) -> Result<(), Fail> {
+    let table: [(&[u32], &str, &[usize], &[i64]); 5] = [
+        (&[0], "9,1", &[1], &[1, 7, 1, 4, 1, 3, 1, 1]),
+        (&[0], "9,-", &[1], &[]),
+        (&[0], "9,1", &[2], &[]),
+        (&[4, 0], "1,9,3", &[2, 0], &[1, 3]),
+        (
+            &[],
+            "9",
+            &[],
+            &[1, 7, 0, 6, 2, 5, 1, 4, 1, 3, 2, 0, 0, 2, 1, 1],
+        ),
+    ];
+    for (vars, other, columns, wanted) in table {
+        assert_eq!(rt;
+            found_in(rt.alloc(), vars, other, columns)?.as_slice(),
+            wanted
+        );
+    }
+    Ok(())
+}
+
+#[test]
+fn parts_turn_into_lists_and_back(rt: HostRuntime) -> Result<(), Fail> {
+    let alloc = rt.alloc();
+    let lists = parts(alloc, "1,2;3,1|1,2")?.into_vec();
+    assert_eq!(rt; lists.len(), 2);
+    let again = Parts::from_vec(lists);
+    let mut out = Vec::new(alloc);
+    for rows in again.items() {
+        for row in rows.items() {
+            spell(&mut out, row)?;
+        }
+    }
+    assert_eq!(rt; out.as_slice(), [1, 2, 3, 1, 1, 2].as_slice());
     Ok(())
 }
 
