@@ -1,1 +1,5 @@
 mod Examples
+pub mod Lesser
+pub mod Sums
+pub mod Known
+pub mod Merging

@@ -1,1 +1,3 @@
 pub mod Partials
+pub mod Joined
+pub mod Stored

@@ -3,6 +3,7 @@
 #![tactic(auto)]
 
 mod fold;
+mod parts;
 #[cfg(test)]
 mod tests;
 
