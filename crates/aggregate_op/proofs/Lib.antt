@@ -1,5 +1,7 @@
 mod Examples
 pub mod Lesser
 pub mod Sums
-pub mod Known
-pub mod Merging
+pub mod JoinedRows
+pub mod MergedRows
+pub mod NextRows
+pub mod Halves

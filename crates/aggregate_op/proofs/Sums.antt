@@ -11,7 +11,7 @@ use Rattle.rows.specs.declared.value.Value.{Value}
 use Rattle.rows.specs.declared.value.Value.TheVariants.{Null, Number, Word, Truth}
 use Rattle.aggregate_op.specs.Partials.{sum_of, integer_in, high_part, low_part}
 use Rattle.aggregate_op.specs.Joined.{carried}
-use Rattle.aggregate_op.specs.Stored.{IsStored, AreStored}
+use Rattle.aggregate_op.specs.Stored.{IsStored}
 
 abbrev unit : ℕ
 unit = 4_611_686_018_427_387_904
@@ -87,7 +87,7 @@ bounded (negsuc n) a b e = (omega arith, omega (arith, e))
 added_up : (y z : ℤ) → (up (y +ℤ z) ≤ up y + up z) × (down (y +ℤ z) ≤ down y + down z)
 added_up y z = bounded (y +ℤ z) (up y + up z) (down y + down z) (omega (arith, ints))
 
-pub sum_upto : (values : List Value) → AreStored values → IsUpto (length values) (sum_of values)
+pub sum_upto : (values : List Value) → AllByRecursion IsStored values → IsUpto (length values) (sum_of values)
 sum_upto [] all = (omega arith, omega arith)
 sum_upto (v ∷ vs) all =
     let one = integer_upto v all.0 in

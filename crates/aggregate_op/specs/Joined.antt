@@ -9,7 +9,7 @@ use Rattle.rows.specs.Values.{value_cmp, column_of, is_null}
 use Rattle.aggregate_op.specs.declared.fold.Fold.{Fold}
 use Rattle.aggregate_op.specs.declared.fold.FoldOp.{FoldOp}
 use Rattle.aggregate_op.specs.declared.fold.FoldOp.TheVariants.{Count, Min, Max, Sum}
-use Rattle.aggregate_op.specs.Partials.{group_of, integer_in, most_rows, parts_of}
+use Rattle.aggregate_op.specs.Partials.{group_of, integer_in, most_rows, part_of}
 
 -- ---- two values
 
@@ -52,12 +52,17 @@ joined_parts (op ∷ ops) left right = joined_part op left right ++ joined_parts
 
 -- ---- two rows
 
+-- the parts of no row
+abbrev pub no_parts : List FoldOp → List Value
+no_parts [] = []
+no_parts (op ∷ ops) = part_of op [] ++ no_parts ops
+
 -- the numbers of rows and the parts behind them; none of the parts where the rows are too many
 abbrev pub joined_known : Fold → List Value → List Value → List Value
 joined_known fold left right =
     if int_lt (added (column_of left 0) (column_of right 0)) (pos most_rows)
     then Number (added (column_of left 0) (column_of right 0)) ∷ joined_parts fold.ops (drop 1 left) (drop 1 right)
-    else Number (pos most_rows) ∷ parts_of fold []
+    else Number (pos most_rows) ∷ no_parts fold.ops
 
 abbrev pub joined : Fold → List Value → List Value → List Value
 joined fold left right = take fold.groups left ++ joined_known fold (drop fold.groups left) (drop fold.groups right)

@@ -1,3 +1,5 @@
 pub mod Partials
 pub mod Joined
 pub mod Stored
+pub mod Singles
+pub mod Sides

@@ -3,8 +3,12 @@
 #![tactic(auto)]
 
 mod fold;
+mod known;
+mod merging;
+mod partials;
 mod parts;
 #[cfg(test)]
 mod tests;
 
 pub use fold::{Fold, FoldOp, FoldOpList, FoldPlace, FoldPlaceList};
+pub use partials::{merge, merge_all, partial};

@@ -3,6 +3,7 @@ ghost use Rattle.std.specs.Prelude.{◌≡◌, ◌++◌, [], ◌∷◌, IfOk, On
 ghost use Rattle.rows.specs.declared.value.Value.TheVariants.{Number};
 ghost use Rattle.rows.specs.Values.{column_of, is_null, value_cmp};
 ghost use Rattle.aggregate_op.specs.Joined.{added, carried, greater, joined_part, joined_parts, lesser, part_width};
+ghost use Rattle.aggregate_op.specs.Stored.{IsStored};
 ghost use Rattle.aggregate_op.specs.Partials.{integer_in};
 
 use crate::FoldOp;
@@ -26,7 +27,8 @@ pub(crate) fn copy_at(alloc: Global, values: &[Value], place: usize) -> Result<V
 
 // The number at a place, and 0 where there is none.
 pub(crate) fn number_at(values: &[Value], place: usize) -> i64
-    ensures { result ≡ integer_in (column_of values.now place) }
+    ensures value { result ≡ integer_in (column_of values.now place) }
+    ensures stored { IsStored (column_of values.now place) }
 {
     match values.get(place) {
         Some(Value::Number(number)) => *number,

@@ -18,9 +18,9 @@ use Rattle.rows.proofs.Orders.{row_total, row_exact}
 use Rattle.aggregate_op.specs.declared.fold.Fold.{Fold}
 use Rattle.aggregate_op.specs.Partials.{group_of, groups_of, is_member, members, known_of, group_row, partial, IsFoldRow}
 use Rattle.aggregate_op.specs.Joined.{joined, merged, merged_from}
-use Rattle.aggregate_op.specs.Stored.{AreStored, AreFoldRows}
+use Rattle.aggregate_op.specs.Stored.{IsStoredRow, AreFoldRows}
 use Rattle.aggregate_op.proofs.Lesser.{all_sort}
-use Rattle.aggregate_op.proofs.Known.{front_is, known_joined}
+use Rattle.aggregate_op.proofs.JoinedRows.{front_is, known_joined}
 
 -- ---- lists
 
@@ -176,7 +176,7 @@ module _ (fold : Fold) where
 
   -- ---- merging
 
-  merged_nil : (ls : List (List Value)) → merged fold ls [] ≡ ls
+  pub merged_nil : (ls : List (List Value)) → merged fold ls [] ≡ ls
   merged_nil [] = refl
   merged_nil (l ∷ ls) = refl
 
@@ -221,7 +221,7 @@ module _ (fold : Fold) where
   members-append : (a b : List (List Value)) (u : List Value) → members fold u (a ++ b) ≡ members fold u a ++ members fold u b
   members-append a b u = filter-append (is_member fold u) a b
 
-  module _ (a b : List (List Value)) (stored1 : AllByRecursion AreStored a) (stored2 : AllByRecursion AreStored b) where
+  module _ (a b : List (List Value)) (stored1 : AllByRecursion (IsStoredRow fold) a) (stored2 : AllByRecursion (IsStoredRow fold) b) where
     above : (u : List Value) (us : List (List Value)) → AllByRecursion (λ g. group_cmp u g ≡ Less) us → AllByRecursion (λ g. group_cmp g u ≡ Greater) us
     above u [] all = tt
     above u (g ∷ gs) all = (turned_less (group_cmp u g) (group_cmp g u) ((row_total []).antisymm g u) all.0, above u gs all.1)
@@ -255,7 +255,7 @@ module _ (fold : Fold) where
           takes_both (group_row fold a u) (group_row fold b u) (rows_on a us) (rows_on b us)
           (ap (λ g. group_cmp g (group_of fold (group_row fold b u))) (group_back a u wide.0) ∙ ap (group_cmp u) (group_back b u wide.0) ∙ tied_itself (row_total []) u)
           ∙ ap (λ r. r ∷ merged fold (rows_on a us) (rows_on b us))
-          (known_joined fold u (members fold u a) (members fold u b) wide.0 (all_filter AreStored (is_member fold u) a stored1) (all_filter AreStored (is_member fold u) b stored2)
+          (known_joined fold u (members fold u a) (members fold u b) wide.0 (all_filter (IsStoredRow fold) (is_member fold u) a stored1) (all_filter (IsStoredRow fold) (is_member fold u) b stored2)
           ∙ ap (known_of fold u) (sym (members-append a b u)))
 
       at : (s t : Bool) → has a u ≡ s → has b u ≡ t → IsMergedAt u us s t (s || t) → IsMergedAt u us (has a u) (has b u) (has (a ++ b) u)
