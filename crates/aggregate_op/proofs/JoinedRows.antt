@@ -25,14 +25,14 @@ op_values-append fold k xs ys =
     ap (filter is_no_null) (map-append (λ row. column_of row (fold.groups + k)) xs ys)
     ∙ filter-append is_no_null (map (λ row. column_of row (fold.groups + k)) xs) (map (λ row. column_of row (fold.groups + k)) ys)
 
-few_values : (fold : Fold) (k : ℕ) (rows : List (List Value)) → length (op_values fold k rows) ≤ length rows
+pub few_values : (fold : Fold) (k : ℕ) (rows : List (List Value)) → length (op_values fold k rows) ≤ length rows
 few_values fold k [] = omega arith
 few_values fold k (row ∷ rows) = by (is_no_null (column_of row (fold.groups + k))) (few_values fold k rows) where
   by : (b : Bool) → length (op_values fold k rows) ≤ length rows → length (cond b (column_of row (fold.groups + k) ∷ op_values fold k rows) (op_values fold k rows)) ≤ length (row ∷ rows)
   by true rest = omega (arith, rest)
   by false rest = omega (arith, rest)
 
-all_same : {X : Type 0} (P Q : X → Type 0) → ((x : X) → P x → Q x) → (xs : List X) → AllByRecursion P xs → AllByRecursion Q xs
+pub all_same : {X : Type 0} (P Q : X → Type 0) → ((x : X) → P x → Q x) → (xs : List X) → AllByRecursion P xs → AllByRecursion Q xs
 all_same P Q each [] all = tt
 all_same P Q each (x ∷ xs) all = (each x all.0, all_same P Q each xs all.1)
 
@@ -43,7 +43,7 @@ pub one_more_behind : (row : List Value) (m n : ℕ) → drop 1 (drop (m + n) ro
 one_more_behind row m n = drop-drop 1 (m + n) row ∙ ap (λ k. drop k row) (omega arith)
 
 -- the numbers of ops that stand behind others
-abbrev AreStoredFrom : Fold → ℕ → List FoldOp → List (List Value) → Type 0
+abbrev pub AreStoredFrom : Fold → ℕ → List FoldOp → List (List Value) → Type 0
 AreStoredFrom fold k ops rows = AllByRecursion (λ row. AreStored ops (drop (fold.groups + k) row)) rows
 
 values_stored : (fold : Fold) (k : ℕ) (rows : List (List Value)) → AllByRecursion (λ row. IsStored (column_of row (fold.groups + k))) rows → AllByRecursion IsStored (op_values fold k rows)
@@ -53,21 +53,21 @@ values_stored fold k (row ∷ rows) all = elim (is_no_null (column_of row (fold.
   | false ↦ values_stored fold k rows all.1
 ]
 
-first_stored : (fold : Fold) (k : ℕ) (ops : List FoldOp) (rows : List (List Value)) → AreStoredFrom fold k (Sum ∷ ops) rows → AllByRecursion IsStored (op_values fold k rows)
+pub first_stored : (fold : Fold) (k : ℕ) (ops : List FoldOp) (rows : List (List Value)) → AreStoredFrom fold k (Sum ∷ ops) rows → AllByRecursion IsStored (op_values fold k rows)
 first_stored fold k ops rows all = values_stored fold k rows
     (all_same (λ row. AreStored (Sum ∷ ops) (drop (fold.groups + k) row)) (λ row. IsStored (column_of row (fold.groups + k))) (λ row s. subst IsStored (first_behind row (fold.groups + k)) s.0) rows all)
 
-others_stored : (fold : Fold) (k : ℕ) (ops : List FoldOp) (rows : List (List Value)) → AllByRecursion (λ row. AreStored ops (drop 1 (drop (fold.groups + k) row))) rows → AreStoredFrom fold (k + 1) ops rows
+pub others_stored : (fold : Fold) (k : ℕ) (ops : List FoldOp) (rows : List (List Value)) → AllByRecursion (λ row. AreStored ops (drop 1 (drop (fold.groups + k) row))) rows → AreStoredFrom fold (k + 1) ops rows
 others_stored fold k ops rows all =
     all_same (λ row. AreStored ops (drop 1 (drop (fold.groups + k) row))) (λ row. AreStored ops (drop (fold.groups + (k + 1)) row)) (λ row s. subst (AreStored ops) (one_more_behind row fold.groups k) s) rows all
 
-all_stored : (fold : Fold) (rows : List (List Value)) → AllByRecursion (IsStoredRow fold) rows → AreStoredFrom fold 0 fold.ops rows
+pub all_stored : (fold : Fold) (rows : List (List Value)) → AllByRecursion (IsStoredRow fold) rows → AreStoredFrom fold 0 fold.ops rows
 all_stored fold rows all =
     all_same (IsStoredRow fold) (λ row. AreStored fold.ops (drop (fold.groups + 0) row)) (λ row s. subst (λ n. AreStored fold.ops (drop n row)) (let e : fold.groups ≡ fold.groups + 0 = omega arith in e) s) rows all
 
 -- ---- the parts
 
-abbrev many : ℕ
+abbrev pub many : ℕ
 many = 281_474_976_710_656
 
 numbers_added : (m n : ℕ) → m ≤ many → n ≤ many → saturate_signed w64 (pos m +ℤ pos n) ≡ pos (m + n)
@@ -113,13 +113,13 @@ front_is front rest n e = subst (λ k. take k (front ++ rest) ≡ front) e (whol
   whole [] rest = refl
   whole (x ∷ xs) rest = ap (λ l. x ∷ l) (whole xs rest)
 
-rest_is : {X : Type 0} (front rest : List X) (n : ℕ) → length front ≡ n → drop n (front ++ rest) ≡ rest
+pub rest_is : {X : Type 0} (front rest : List X) (n : ℕ) → length front ≡ n → drop n (front ++ rest) ≡ rest
 rest_is front rest n e = subst (λ k. drop k (front ++ rest) ≡ rest) e (whole front rest) where
   whole : {X : Type 0} (front rest : List X) → drop (length front) (front ++ rest) ≡ rest
   whole [] rest = refl
   whole (x ∷ xs) rest = whole xs rest
 
-told_apart : (rows : List (List Value)) → length rows < many → unless_too_many rows ≡ rows
+pub told_apart : (rows : List (List Value)) → length rows < many → unless_too_many rows ≡ rows
 told_apart rows h = ap (λ b. cond b rows []) (lt-ltb (length rows) many h)
 
 too_many : (rows : List (List Value)) → many ≤ length rows → unless_too_many rows ≡ []

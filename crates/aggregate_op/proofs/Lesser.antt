@@ -159,9 +159,9 @@ least-append (x ∷ xs) ys all1 all2 =
     ∙ lesser_middle x (least xs) (least ys) all1.0
     ∙ ap (λ v. lesser v (least ys)) (sym (first_insert x (sort_by value_cmp xs) all1.0 (all_sort value_cmp (λ v. is_null v ≡ false) xs all1.1)))
   where
-  both : (us vs : List Value) → NoNulls us → NoNulls vs → NoNulls (us ++ vs)
-  both [] vs a b = b
-  both (u ∷ us) vs a b = (a.0, both us vs a.1 b)
+    both : (us vs : List Value) → NoNulls us → NoNulls vs → NoNulls (us ++ vs)
+    both [] vs a b = b
+    both (u ∷ us) vs a b = (a.0, both us vs a.1 b)
 
 -- the last value, or another one where there is none
 abbrev last_or : Value → List Value → Value

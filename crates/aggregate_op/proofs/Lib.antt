@@ -5,3 +5,4 @@ pub mod JoinedRows
 pub mod MergedRows
 pub mod NextRows
 pub mod Halves
+pub mod ClosedGroups

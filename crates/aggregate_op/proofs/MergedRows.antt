@@ -24,7 +24,7 @@ use Rattle.aggregate_op.proofs.JoinedRows.{front_is, known_joined}
 
 -- ---- lists
 
-all_filter : {X : Type 0} (P : X → Type 0) (test : X → Bool) (xs : List X) → AllByRecursion P xs → AllByRecursion P (filter test xs)
+pub all_filter : {X : Type 0} (P : X → Type 0) (test : X → Bool) (xs : List X) → AllByRecursion P xs → AllByRecursion P (filter test xs)
 all_filter P test [] all = tt
 all_filter P test (x ∷ xs) all = elim (test x) as (λ b. AllByRecursion P (cond b (x ∷ filter test xs) (filter test xs))) [
   | true ↦ (all.0, all_filter P test xs all.1)
@@ -162,16 +162,16 @@ module _ (fold : Fold) where
       ∙ ap (λ n. cond (has rows z) n 0) (sym (groups_often z all))
       ∙ sym (filter_often (has rows) z (groups_of fold all)))
     where
-    counted : (m n : ℕ) → m ≤ n → min m 1 ≡ cond (nat_lt 0 m) (min n 1) 0
-    counted zero n h = refl
-    counted (suc m) n h = (let e : min (suc m) 1 ≡ min n 1 = omega (arith, h) in e) ∙ sym (ap (λ b. cond b (min n 1) 0) (lt-ltb 0 (suc m) (omega arith)))
+      counted : (m n : ℕ) → m ≤ n → min m 1 ≡ cond (nat_lt 0 m) (min n 1) 0
+      counted zero n h = refl
+      counted (suc m) n h = (let e : min (suc m) 1 ≡ min n 1 = omega (arith, h) in e) ∙ sym (ap (λ b. cond b (min n 1) 0) (lt-ltb 0 (suc m) (omega arith)))
 
   wide : (rows : List (List Value)) → AllByRecursion (IsFoldRow fold) rows → AllByRecursion (λ g. length g ≡ fold.groups) (map (group_of fold) rows)
   wide [] fit = tt
   wide (row ∷ rows) fit =
       (ap (λ r. length (take fold.groups r)) fit.0.whole ∙ ap length (front_is fit.0.groups fit.0.values fold.groups fit.0.width) ∙ fit.0.width, wide rows fit.1)
 
-  groups_wide : (rows : List (List Value)) → AllByRecursion (IsFoldRow fold) rows → AllByRecursion (λ g. length g ≡ fold.groups) (groups_of fold rows)
+  pub groups_wide : (rows : List (List Value)) → AllByRecursion (IsFoldRow fold) rows → AllByRecursion (λ g. length g ≡ fold.groups) (groups_of fold rows)
   groups_wide rows fit = all_sort group_cmp (λ g. length g ≡ fold.groups) (distinct_by group_cmp (map (group_of fold) rows)) (all_distinct group_cmp (λ g. length g ≡ fold.groups) (map (group_of fold) rows) (wide rows fit))
 
   -- ---- merging
@@ -211,9 +211,9 @@ module _ (fold : Fold) where
       ∙ ap (nat_lt 0) (length-append (members fold u a) (members fold u b))
       ∙ either (length (members fold u a)) (length (members fold u b))
     where
-    either : (m n : ℕ) → nat_lt 0 (m + n) ≡ (nat_lt 0 m || nat_lt 0 n)
-    either zero n = ap (nat_lt 0) (let e : 0 + n ≡ n = omega arith in e)
-    either (suc m) n = lt-ltb 0 (suc m + n) (omega arith) ∙ sym (ap (λ b. b || nat_lt 0 n) (lt-ltb 0 (suc m) (omega arith)))
+      either : (m n : ℕ) → nat_lt 0 (m + n) ≡ (nat_lt 0 m || nat_lt 0 n)
+      either zero n = ap (nat_lt 0) (let e : 0 + n ≡ n = omega arith in e)
+      either (suc m) n = lt-ltb 0 (suc m + n) (omega arith) ∙ sym (ap (λ b. b || nat_lt 0 n) (lt-ltb 0 (suc m) (omega arith)))
 
   none_if : (rows : List (List Value)) (u : List Value) → has rows u ≡ false → members fold u rows ≡ []
   none_if rows u e = let none : length (members fold u rows) ≤ 0 = ltb-false 0 (length (members fold u rows)) e in empty_if (members fold u rows) (omega (arith, none))
@@ -274,5 +274,5 @@ partials_merged fold a b fit1 fit2 =
     ∙ merged_on fold a b fit1.stored fit2.stored (groups_of fold (a ++ b)) (groups_rise fold (a ++ b)) (groups_wide fold (a ++ b) (all_append (IsFoldRow fold) a b fit1.fit fit2.fit))
     ∙ ap (map (group_row fold (a ++ b))) (sym (groups_among fold (a ++ b) (a ++ b) (λ z. omega arith)))
   where
-  more : (z : List Value) → length (members fold z (a ++ b)) ≡ length (members fold z a) + length (members fold z b)
-  more z = ap length (members-append fold a b z) ∙ length-append (members fold z a) (members fold z b)
+    more : (z : List Value) → length (members fold z (a ++ b)) ≡ length (members fold z a) + length (members fold z b)
+    more z = ap length (members-append fold a b z) ∙ length-append (members fold z a) (members fold z b)

@@ -13,11 +13,11 @@ use Rattle.aggregate_op.specs.Partials.{sum_of, integer_in, high_part, low_part}
 use Rattle.aggregate_op.specs.Joined.{carried}
 use Rattle.aggregate_op.specs.Stored.{IsStored}
 
-abbrev unit : ℕ
+abbrev pub unit : ℕ
 unit = 4_611_686_018_427_387_904
 
 -- z is `high` times the unit and `low`
-record IsSplit (z high : ℤ) (low : ℕ) : Type 0 where
+pub record IsSplit (z high : ℤ) (low : ℕ) : Type 0 where
   pub whole : up z + unit * down high ≡ down z + unit * up high + low
   pub below : low < unit
 
@@ -46,15 +46,15 @@ low_is (negsuc a) (negsuc k) r s =
     ap (λ n. pos (unit - 1 - n)) e ∙ ap pos (omega (arith, s.below))
 
 -- what is left of a sum, as a number
-abbrev rest_of : ℤ → ℕ
+abbrev pub rest_of : ℤ → ℕ
 rest_of (pos a) = a % unit
 rest_of (negsuc a) = unit - 1 - a % unit
 
-low_is_rest : (z : ℤ) → low_part z ≡ pos (rest_of z)
+pub low_is_rest : (z : ℤ) → low_part z ≡ pos (rest_of z)
 low_is_rest (pos a) = refl
 low_is_rest (negsuc a) = refl
 
-split_of : (z : ℤ) → IsSplit z (high_part z) (rest_of z)
+pub split_of : (z : ℤ) → IsSplit z (high_part z) (rest_of z)
 split_of (pos a) =
     let under : a % unit < unit = mod-lt a {m = unit} (omega arith) in
     record { whole = omega (arith, div-add-mod a unit); below = under }
@@ -80,7 +80,7 @@ integer_upto (Number (negsuc n)) s = (omega arith, omega (arith, ints, s.sfits))
 integer_upto (Word w) s = (omega arith, omega arith)
 integer_upto (Truth t) s = (omega arith, omega arith)
 
-bounded : (z : ℤ) (a b : ℕ) → up z + b ≡ down z + a → (up z ≤ a) × (down z ≤ b)
+pub bounded : (z : ℤ) (a b : ℕ) → up z + b ≡ down z + a → (up z ≤ a) × (down z ≤ b)
 bounded (pos n) a b e = (omega (arith, e), omega arith)
 bounded (negsuc n) a b e = (omega arith, omega (arith, e))
 
@@ -125,32 +125,32 @@ carried_is m n y z u v small1 small2 =
     ∙ ap (carried (high_part y +ℤ high_part z)) lows
     ∙ by (int_lt (pos (rest_of y + rest_of z)) (pos unit)) refl
   where
-  few1 : IsFew (high_part y)
-  few1 = high_few m y (high_part y) (rest_of y) u small1 (split_of y)
+    few1 : IsFew (high_part y)
+    few1 = high_few m y (high_part y) (rest_of y) u small1 (split_of y)
 
-  few2 : IsFew (high_part z)
-  few2 = high_few n z (high_part z) (rest_of z) v small2 (split_of z)
+    few2 : IsFew (high_part z)
+    few2 = high_few n z (high_part z) (rest_of z) v small2 (split_of z)
 
-  lows : saturate_signed w64 (low_part y +ℤ low_part z) ≡ pos (rest_of y + rest_of z)
-  lows =
-      ap (λ w. saturate_signed w64 (w +ℤ low_part z)) (low_is_rest y)
-      ∙ ap (λ w. saturate_signed w64 (pos (rest_of y) +ℤ w)) (low_is_rest z)
-      ∙ kept (pos (rest_of y + rest_of z)) (omega (arith, (split_of y).below, (split_of z).below)) (omega arith)
+    lows : saturate_signed w64 (low_part y +ℤ low_part z) ≡ pos (rest_of y + rest_of z)
+    lows =
+        ap (λ w. saturate_signed w64 (w +ℤ low_part z)) (low_is_rest y)
+        ∙ ap (λ w. saturate_signed w64 (pos (rest_of y) +ℤ w)) (low_is_rest z)
+        ∙ kept (pos (rest_of y + rest_of z)) (omega (arith, (split_of y).below, (split_of z).below)) (omega arith)
 
-  by : (b : Bool) → int_lt (pos (rest_of y + rest_of z)) (pos unit) ≡ b
-      → carried (high_part y +ℤ high_part z) (pos (rest_of y + rest_of z)) ≡ Number (high_part (y +ℤ z)) ∷ Number (low_part (y +ℤ z)) ∷ []
-  by true e =
-      let split : IsSplit (y +ℤ z) (high_part y +ℤ high_part z) (rest_of y + rest_of z) = split_together y z (high_part y) (high_part z) (rest_of y) (rest_of z) (split_of y) (split_of z) (let l = lt-true (pos (rest_of y + rest_of z)) (pos unit) e in omega (arith, l)) in
-      ap (λ t. cond t (Number (high_part y +ℤ high_part z) ∷ Number (pos (rest_of y + rest_of z)) ∷ []) (Number (saturate_signed w64 ((high_part y +ℤ high_part z) +ℤ pos 1)) ∷ Number (pos (rest_of y + rest_of z) -ℤ pos unit) ∷ [])) e
-      ∙ ap (λ high. Number high ∷ Number (pos (rest_of y + rest_of z)) ∷ []) (sym (high_is (y +ℤ z) (high_part y +ℤ high_part z) (rest_of y + rest_of z) split))
-      ∙ ap (λ low. Number (high_part (y +ℤ z)) ∷ Number low ∷ []) (sym (low_is (y +ℤ z) (high_part y +ℤ high_part z) (rest_of y + rest_of z) split))
-  by false e =
-      let over : unit ≤ rest_of y + rest_of z = (let l = lt-false (pos (rest_of y + rest_of z)) (pos unit) e in omega (arith, l)) in
-      let split : IsSplit (y +ℤ z) ((high_part y +ℤ high_part z) +ℤ pos 1) (rest_of y + rest_of z - unit) = split_carried y z (high_part y) (high_part z) (rest_of y) (rest_of z) (split_of y) (split_of z) over in
-      let both = added_up (high_part y) (high_part z) in
-      let more = added_up (high_part y +ℤ high_part z) (pos 1) in
-      ap (λ t. cond t (Number (high_part y +ℤ high_part z) ∷ Number (pos (rest_of y + rest_of z)) ∷ []) (Number (saturate_signed w64 ((high_part y +ℤ high_part z) +ℤ pos 1)) ∷ Number (pos (rest_of y + rest_of z) -ℤ pos unit) ∷ [])) e
-      ∙ ap (λ high. Number high ∷ Number (pos (rest_of y + rest_of z) -ℤ pos unit) ∷ []) (kept ((high_part y +ℤ high_part z) +ℤ pos 1) (omega (arith, both.0, more.0, few1.0, few2.0)) (omega (arith, both.1, more.1, few1.1, few2.1)))
-      ∙ ap (λ low. Number ((high_part y +ℤ high_part z) +ℤ pos 1) ∷ Number low ∷ []) (same_in (pos (rest_of y + rest_of z) -ℤ pos unit) (pos (rest_of y + rest_of z - unit)) (omega (arith, ints, over)))
-      ∙ ap (λ high. Number high ∷ Number (pos (rest_of y + rest_of z - unit)) ∷ []) (sym (high_is (y +ℤ z) ((high_part y +ℤ high_part z) +ℤ pos 1) (rest_of y + rest_of z - unit) split))
-      ∙ ap (λ low. Number (high_part (y +ℤ z)) ∷ Number low ∷ []) (sym (low_is (y +ℤ z) ((high_part y +ℤ high_part z) +ℤ pos 1) (rest_of y + rest_of z - unit) split))
+    by : (b : Bool) → int_lt (pos (rest_of y + rest_of z)) (pos unit) ≡ b
+        → carried (high_part y +ℤ high_part z) (pos (rest_of y + rest_of z)) ≡ Number (high_part (y +ℤ z)) ∷ Number (low_part (y +ℤ z)) ∷ []
+    by true e =
+        let split : IsSplit (y +ℤ z) (high_part y +ℤ high_part z) (rest_of y + rest_of z) = split_together y z (high_part y) (high_part z) (rest_of y) (rest_of z) (split_of y) (split_of z) (let l = lt-true (pos (rest_of y + rest_of z)) (pos unit) e in omega (arith, l)) in
+        ap (λ t. cond t (Number (high_part y +ℤ high_part z) ∷ Number (pos (rest_of y + rest_of z)) ∷ []) (Number (saturate_signed w64 ((high_part y +ℤ high_part z) +ℤ pos 1)) ∷ Number (pos (rest_of y + rest_of z) -ℤ pos unit) ∷ [])) e
+        ∙ ap (λ high. Number high ∷ Number (pos (rest_of y + rest_of z)) ∷ []) (sym (high_is (y +ℤ z) (high_part y +ℤ high_part z) (rest_of y + rest_of z) split))
+        ∙ ap (λ low. Number (high_part (y +ℤ z)) ∷ Number low ∷ []) (sym (low_is (y +ℤ z) (high_part y +ℤ high_part z) (rest_of y + rest_of z) split))
+    by false e =
+        let over : unit ≤ rest_of y + rest_of z = (let l = lt-false (pos (rest_of y + rest_of z)) (pos unit) e in omega (arith, l)) in
+        let split : IsSplit (y +ℤ z) ((high_part y +ℤ high_part z) +ℤ pos 1) (rest_of y + rest_of z - unit) = split_carried y z (high_part y) (high_part z) (rest_of y) (rest_of z) (split_of y) (split_of z) over in
+        let both = added_up (high_part y) (high_part z) in
+        let more = added_up (high_part y +ℤ high_part z) (pos 1) in
+        ap (λ t. cond t (Number (high_part y +ℤ high_part z) ∷ Number (pos (rest_of y + rest_of z)) ∷ []) (Number (saturate_signed w64 ((high_part y +ℤ high_part z) +ℤ pos 1)) ∷ Number (pos (rest_of y + rest_of z) -ℤ pos unit) ∷ [])) e
+        ∙ ap (λ high. Number high ∷ Number (pos (rest_of y + rest_of z) -ℤ pos unit) ∷ []) (kept ((high_part y +ℤ high_part z) +ℤ pos 1) (omega (arith, both.0, more.0, few1.0, few2.0)) (omega (arith, both.1, more.1, few1.1, few2.1)))
+        ∙ ap (λ low. Number ((high_part y +ℤ high_part z) +ℤ pos 1) ∷ Number low ∷ []) (same_in (pos (rest_of y + rest_of z) -ℤ pos unit) (pos (rest_of y + rest_of z - unit)) (omega (arith, ints, over)))
+        ∙ ap (λ high. Number high ∷ Number (pos (rest_of y + rest_of z - unit)) ∷ []) (sym (high_is (y +ℤ z) ((high_part y +ℤ high_part z) +ℤ pos 1) (rest_of y + rest_of z - unit) split))
+        ∙ ap (λ low. Number (high_part (y +ℤ z)) ∷ Number low ∷ []) (sym (low_is (y +ℤ z) ((high_part y +ℤ high_part z) +ℤ pos 1) (rest_of y + rest_of z - unit) split))

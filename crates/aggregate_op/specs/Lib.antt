@@ -3,3 +3,5 @@ pub mod Joined
 pub mod Stored
 pub mod Singles
 pub mod Sides
+pub mod FoldMeaning
+pub mod Closing

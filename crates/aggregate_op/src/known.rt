@@ -145,7 +145,12 @@ pub(crate) fn known_row(alloc: Global, row: &Row, fold: &Fold) -> Result<Row, Al
     let mut known = Vec::with_capacity(alloc, known_width(fold))?;
     put_copies(&mut known, alloc, front(row.items(), groups))?;
     known.push(Value::Number(1))?;
-    put_parts(&mut known, alloc, fold.ops.items(), behind(row.items(), groups))?;
+    put_parts(
+        &mut known,
+        alloc,
+        fold.ops.items(),
+        behind(row.items(), groups),
+    )?;
     Ok(Row::from_vec(known))
 }
 
@@ -165,7 +170,13 @@ fn put_joined_known(
         return put_no_parts(known, fold.ops.items());
     }
     known.push(Value::Number(rows))?;
-    put_joined_parts(known, alloc, fold.ops.items(), behind(left, 1), behind(right, 1))
+    put_joined_parts(
+        known,
+        alloc,
+        fold.ops.items(),
+        behind(left, 1),
+        behind(right, 1),
+    )
 }
 
 // What is known of a group by two rows of it.

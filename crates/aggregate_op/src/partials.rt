@@ -49,12 +49,7 @@ pub fn partial(alloc: Global, rows: &Rows, fold: &Fold) -> Result<Rows, AllocErr
 }
 
 /// The partial of the rows of two partials. An error is want of memory.
-pub fn merge(
-    alloc: Global,
-    left: &Rows,
-    right: &Rows,
-    fold: &Fold,
-) -> Result<Rows, AllocError>
+pub fn merge(alloc: Global, left: &Rows, right: &Rows, fold: &Fold) -> Result<Rows, AllocError>
     ensures { IfOk result (λ found. (a b : List (List Value)) → IsPartialOf fold.now a left.now → IsPartialOf fold.now b right.now → IsPartialOf fold.now (a ++ b) found) }
 {
     let left = left.copy(alloc)?.into_vec();

@@ -130,11 +130,7 @@ pub(crate) fn put_sum(
 }
 
 // Adds the part of a sum of two parts, which stand at the front of two lists.
-fn put_joined_sum(
-    parts: &mut Vec<Value>,
-    left: &[Value],
-    right: &[Value],
-) -> Result<(), AllocError>
+fn put_joined_sum(parts: &mut Vec<Value>, left: &[Value], right: &[Value]) -> Result<(), AllocError>
     ensures { OnOk result (parts.new.items ≡ parts.old.items ++ joined_part FoldOp.Sum left.now right.now) }
 {
     let (high, low) = carried(added(left, right, 1), added(left, right, 2));
