@@ -1,1 +1,8 @@
 mod Examples
+pub mod Lesser
+pub mod Sums
+pub mod JoinedRows
+pub mod MergedRows
+pub mod NextRows
+pub mod Halves
+pub mod ClosedGroups

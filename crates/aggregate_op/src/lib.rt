@@ -2,8 +2,15 @@
 //! by group.
 #![tactic(auto)]
 
+mod closing;
 mod fold;
+mod known;
+mod merging;
+mod partials;
+mod parts;
 #[cfg(test)]
 mod tests;
 
+pub use closing::{Closed, close_groups};
 pub use fold::{Fold, FoldOp, FoldOpList, FoldPlace, FoldPlaceList};
+pub use partials::{merge, merge_all, partial};

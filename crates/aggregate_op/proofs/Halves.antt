@@ -1,0 +1,137 @@
+-- The partial of rows from that of each half.
+use Rattle.std.proofs.Common.{◌≡◌, ◌<◌, ◌+◌, ℕ, zero, suc, Bool, true, false, cond, List, [], ◌∷◌, ◌++◌, refl, sym, ap, ◌∙◌, subst, arith, length, get_or, ◌≤◌, map, filter, take, drop, append_assoc, append-nil, flat_map}
+use Rattle.std.specs.List.{AllByRecursion, AllZip, take-map, drop-map}
+use Rattle.std.proofs.lemmas.List.{take-append-drop}
+use Rattle.std.proofs.lemmas.Cmp.{tied_itself}
+use Rattle.std.proofs.lemmas.List.Concat.{flat_map-append}
+use Rattle.std.specs.Ordering.{is_eq}
+use Rattle.rows.specs.declared.value.Value.{Value}
+use Rattle.rows.specs.declared.value.Value.TheVariants.{Null}
+use Rattle.rows.specs.Values.{column_of}
+use Rattle.rows.proofs.Orders.{row_total}
+use Rattle.aggregate_op.specs.declared.fold.Fold.{Fold}
+use Rattle.aggregate_op.specs.declared.fold.FoldOp.{FoldOp}
+use Rattle.aggregate_op.specs.Partials.{group_of, known_of, partial, part_of, parts_from, number, is_no_null, IsFoldRow}
+use Rattle.aggregate_op.specs.Joined.{merged}
+use Rattle.aggregate_op.specs.Singles.{single_known, single_parts, without_null}
+use Rattle.aggregate_op.specs.Stored.{IsStoredRow, AreFoldRows, IsPartialOf, ArePartialsOf, all_rows}
+use Rattle.aggregate_op.proofs.JoinedRows.{first_behind, one_more_behind}
+use Rattle.aggregate_op.proofs.MergedRows.{all_append, partials_merged}
+
+-- ---- one row
+
+parts_of_one : (fold : Fold) (row : List Value) (k : ℕ) (ops : List FoldOp) → single_parts ops (drop (fold.groups + k) row) ≡ parts_from fold k ops (row ∷ [])
+parts_of_one fold row k [] = refl
+parts_of_one fold row k (op ∷ ops) =
+    ap (λ v. part_of op (without_null v) ++ single_parts ops (drop 1 (drop (fold.groups + k) row))) (first_behind row (fold.groups + k))
+    ∙ ap (λ values. part_of op (without_null (column_of row (fold.groups + k))) ++ single_parts ops values) (one_more_behind row fold.groups k)
+    ∙ ap (λ rest. part_of op (without_null (column_of row (fold.groups + k))) ++ rest) (parts_of_one fold row (k + 1) ops)
+
+known_of_one : (fold : Fold) (row : List Value) → single_known fold row ≡ known_of fold (group_of fold row) (row ∷ [])
+known_of_one fold row = ap (λ parts. group_of fold row ++ number 1 ∷ parts)
+    (ap (λ n. single_parts fold.ops (drop n row)) (let e : fold.groups ≡ fold.groups + 0 = omega arith in e) ∙ parts_of_one fold row 0 fold.ops)
+
+single_partial_is : (fold : Fold) (row : List Value) → single_known fold row ∷ [] ≡ partial fold (row ∷ [])
+single_partial_is fold row =
+    ap (λ r. r ∷ []) (known_of_one fold row)
+    ∙ ap (λ b. known_of fold (group_of fold row) (cond b (row ∷ []) []) ∷ []) (sym (ap is_eq (tied_itself (row_total []) (group_of fold row))))
+
+pub of_one : (fold : Fold) (row : List Value) (known : List Value) (found : List (List Value)) → IsFoldRow fold row → IsStoredRow fold row → known ≡ single_known fold row → found ≡ known ∷ [] → IsPartialOf fold (row ∷ []) found
+of_one fold row known found fit stored e f = record {
+  may = record { fit = (fit, tt); stored = (stored, tt) };
+  is = f ∙ ap (λ k. k ∷ []) e ∙ single_partial_is fold row;
+}
+
+pub of_none : (fold : Fold) (found : List (List Value)) → found ≡ [] → IsPartialOf fold [] found
+of_none fold found e = record { may = record { fit = tt; stored = tt }; is = e }
+
+-- ---- two lists of rows
+
+pub of_both : (fold : Fold) (a b left right found : List (List Value)) → IsPartialOf fold a left → IsPartialOf fold b right → found ≡ merged fold left right → IsPartialOf fold (a ++ b) found
+of_both fold a b left right found p q e = record {
+  may = record {
+    fit = all_append (IsFoldRow fold) a b p.may.fit q.may.fit;
+    stored = all_append (IsStoredRow fold) a b p.may.stored q.may.stored;
+  };
+  is = e ∙ ap (λ l. merged fold l right) p.is ∙ ap (merged fold (partial fold a)) q.is ∙ partials_merged fold a b p.may q.may;
+}
+
+pub all_take : {X : Type 0} (P : X → Type 0) (n : ℕ) (xs : List X) → AllByRecursion P xs → AllByRecursion P (take n xs)
+all_take P zero xs all = tt
+all_take P (suc n) [] all = tt
+all_take P (suc n) (x ∷ xs) all = (all.0, all_take P n xs all.1)
+
+pub all_drop : {X : Type 0} (P : X → Type 0) (n : ℕ) (xs : List X) → AllByRecursion P xs → AllByRecursion P (drop n xs)
+all_drop P zero xs all = all
+all_drop P (suc n) [] all = tt
+all_drop P (suc n) (x ∷ xs) all = all_drop P n xs all.1
+
+pub of_halves : (fold : Fold) (n : ℕ) (rows first second left right found : List (List Value)) → first ≡ take n rows → second ≡ drop n rows
+    → IsPartialOf fold first left → IsPartialOf fold second right → found ≡ merged fold left right → IsPartialOf fold rows found
+of_halves fold n rows first second left right found e f p q g =
+    subst (λ all. IsPartialOf fold all found) (ap (λ l. l ++ second) e ∙ ap (λ r. take n rows ++ r) f ∙ take-append-drop n rows) (of_both fold first second left right found p q g)
+
+-- ---- several lists of rows
+
+pub none_mapped : {X Y : Type 0} (f : X → Y) (xs : List X) → length xs < 1 → map f xs ≡ []
+none_mapped f [] h = refl
+none_mapped f (x ∷ xs) h = absurd (omega (arith, h))
+
+pub one_mapped : {X Y : Type 0} (f : X → Y) (xs : List X) (x : X) → 1 ≤ length xs → length xs < 2 → x ≡ get_or xs 0 x → map f xs ≡ f x ∷ []
+one_mapped f [] x low high e = absurd (omega (arith, low))
+one_mapped f (y ∷ []) x low high e = ap (λ z. f z ∷ []) (sym e)
+one_mapped f (y ∷ z ∷ zs) x low high e = absurd (omega (arith, high))
+
+pub front_mapped : {X Y : Type 0} (f : X → Y) (n : ℕ) (xs front : List X) → front ≡ take n xs → take n (map f xs) ≡ map f front
+front_mapped f n xs front e = take-map f n xs ∙ ap (map f) (sym e)
+
+pub back_mapped : {X Y : Type 0} (f : X → Y) (n : ℕ) (xs back : List X) → back ≡ drop n xs → drop n (map f xs) ≡ map f back
+back_mapped f n xs back e = drop-map f n xs ∙ ap (map f) (sym e)
+
+zip_take : {A B : Type 0} (R : A → B → Type 0) (n : ℕ) (xs : List A) (ys : List B) → AllZip R xs ys → AllZip R (take n xs) (take n ys)
+zip_take R zero xs ys all = tt
+zip_take R (suc n) [] [] all = tt
+zip_take R (suc n) [] (y ∷ ys) all = absurd all
+zip_take R (suc n) (x ∷ xs) [] all = absurd all
+zip_take R (suc n) (x ∷ xs) (y ∷ ys) all = (all.0, zip_take R n xs ys all.1)
+
+zip_drop : {A B : Type 0} (R : A → B → Type 0) (n : ℕ) (xs : List A) (ys : List B) → AllZip R xs ys → AllZip R (drop n xs) (drop n ys)
+zip_drop R zero xs ys all = all
+zip_drop R (suc n) [] [] all = tt
+zip_drop R (suc n) [] (y ∷ ys) all = absurd all
+zip_drop R (suc n) (x ∷ xs) [] all = absurd all
+zip_drop R (suc n) (x ∷ xs) (y ∷ ys) all = zip_drop R n xs ys all.1
+
+pub of_no_lists : (fold : Fold) (found : List (List Value)) (lists : List (List (List Value))) → found ≡ [] → ArePartialsOf fold lists [] → IsPartialOf fold (all_rows lists) found
+of_no_lists fold found [] e all = of_none fold found e
+of_no_lists fold found (l ∷ ls) e all = absurd all
+
+pub of_one_list : (fold : Fold) (part found : List (List Value)) (lists : List (List (List Value))) → found ≡ part → ArePartialsOf fold lists (part ∷ []) → IsPartialOf fold (all_rows lists) found
+of_one_list fold part found [] e all = absurd all
+of_one_list fold part found (l ∷ []) e all =
+    subst (λ rows. IsPartialOf fold rows found) (sym (append-nil l)) (subst (IsPartialOf fold l) (sym e) all.0)
+of_one_list fold part found (l ∷ m ∷ ls) e all = absurd all.1
+
+module _ (fold : Fold) (n : ℕ) (lists parts : List (List (List Value))) (all : ArePartialsOf fold lists parts) where
+  pub front_lists : ArePartialsOf fold (take n lists) (take n parts)
+  front_lists = zip_take (IsPartialOf fold) n lists parts all
+
+  pub back_lists : ArePartialsOf fold (drop n lists) (drop n parts)
+  back_lists = zip_drop (IsPartialOf fold) n lists parts all
+
+  pub of_both_lists : (left right found : List (List Value)) → IsPartialOf fold (all_rows (take n lists)) left → IsPartialOf fold (all_rows (drop n lists)) right → found ≡ merged fold left right → IsPartialOf fold (all_rows lists) found
+  of_both_lists left right found p q e =
+      subst (λ rows. IsPartialOf fold rows found) (sym (flat_map-append (λ rows. rows) (take n lists) (drop n lists)) ∙ ap all_rows (take-append-drop n lists))
+      (of_both fold (all_rows (take n lists)) (all_rows (drop n lists)) left right found p q e)
+
+-- the parts of each half, merged
+pub merged_halves : {X : Type 0} (fold : Fold) (n : ℕ) (f : X → List (List Value)) (parts front back : List X) (left right found : List (List Value)) → front ≡ take n parts → back ≡ drop n parts
+    → ((lists : List (List (List Value))) → ArePartialsOf fold lists (map f front) → IsPartialOf fold (all_rows lists) left)
+    → ((lists : List (List (List Value))) → ArePartialsOf fold lists (map f back) → IsPartialOf fold (all_rows lists) right)
+    → found ≡ merged fold left right
+    → (lists : List (List (List Value))) → ArePartialsOf fold lists (map f parts) → IsPartialOf fold (all_rows lists) found
+merged_halves fold n f parts front back left right found e g p q m lists all =
+    of_both_lists fold n lists (map f parts) all left right found
+    (p (take n lists) (subst (ArePartialsOf fold (take n lists)) (front_mapped f n parts front e) (front_lists fold n lists (map f parts) all)))
+    (q (drop n lists) (subst (ArePartialsOf fold (drop n lists)) (back_mapped f n parts back g) (back_lists fold n lists (map f parts) all)))
+    m

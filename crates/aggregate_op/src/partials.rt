@@ -1,0 +1,82 @@
+//! What is known of each group of some rows, and of the rows of several parts.
+ghost use Rattle.std.specs.Prelude.{◌++◌, [], ◌∷◌, List, map, IfOk};
+ghost use Rattle.std.specs.List.{AllByRecursion};
+ghost use Rattle.rows.specs.declared.value.Value.{Value};
+ghost use Rattle.aggregate_op.specs.Partials.{IsFoldRow};
+ghost use Rattle.aggregate_op.specs.Stored.{ArePartialsOf, IsPartialOf, all_rows};
+
+use crate::Fold;
+use crate::known::known_row;
+use crate::merging::merge_rows;
+use rows::{Row, Rows};
+use std::alloc::{AllocError, Global};
+use std::sync::Arc;
+
+// What is known of the group of one row, as a list.
+fn single_partial(alloc: Global, row: &Row, fold: &Fold) -> Result<Vec<Row>, AllocError>
+    requires { IsFoldRow fold.now row.now }
+    ensures { IfOk result (λ found. IsPartialOf fold.now (row.now ∷ []) found.items) }
+{
+    let mut found = Vec::with_capacity(alloc, 1)?;
+    found.push(known_row(alloc, row, fold)?)?;
+    Ok(found)
+}
+
+// The partial of rows: that of each half, merged.
+fn partial_of(alloc: Global, rows: &[Row], fold: &Fold) -> Result<Vec<Row>, AllocError>
+    requires { AllByRecursion (IsFoldRow fold.now) rows.now }
+    ensures { IfOk result (λ found. IsPartialOf fold.now rows.now found.items) }
+{
+    match rows {
+        [] => Ok(Vec::new(alloc)),
+        [row] => single_partial(alloc, row, fold),
+        _ => {
+            let (first, second) = rows.split_at(rows.len() / 2);
+            let left = partial_of(alloc, first, fold)?;
+            let right = partial_of(alloc, second, fold)?;
+            Ok(merge_rows(alloc, left, right, fold)?)
+        }
+    }
+}
+
+/// What is known of each group of some rows, in ascending order of the groups. Each row has the group values and then a
+/// value for each op, a number or null under `Sum`. An error is want of memory.
+pub fn partial(alloc: Global, rows: &Rows, fold: &Fold) -> Result<Rows, AllocError>
+    requires { AllByRecursion (IsFoldRow fold.now) rows.now }
+    ensures { IfOk result (IsPartialOf fold.now rows.now) }
+{
+    Ok(Rows::from_vec(partial_of(alloc, rows.items(), fold)?))
+}
+
+/// The partial of the rows of two partials. An error is want of memory.
+pub fn merge(alloc: Global, left: &Rows, right: &Rows, fold: &Fold) -> Result<Rows, AllocError>
+    ensures { IfOk result (λ found. (a b : List (List Value)) → IsPartialOf fold.now a left.now → IsPartialOf fold.now b right.now → IsPartialOf fold.now (a ++ b) found) }
+{
+    let left = left.copy(alloc)?.into_vec();
+    let right = right.copy(alloc)?.into_vec();
+    Ok(Rows::from_vec(merge_rows(alloc, left, right, fold)?))
+}
+
+// The parts of the first half, merged with those of the second.
+fn merge_parts(alloc: Global, parts: &[Arc<Rows>], fold: &Fold) -> Result<Vec<Row>, AllocError>
+    ensures { IfOk result (λ found. (lists : List (List (List Value))) → ArePartialsOf fold.now lists (map (λ part. part.value) parts.now) → IsPartialOf fold.now (all_rows lists) found.items) }
+{
+    match parts {
+        [] => Ok(Vec::new(alloc)),
+        [part] => Ok(part.copy(alloc)?.into_vec()),
+        _ => {
+            let (first, second) = parts.split_at(parts.len() / 2);
+            let left = merge_parts(alloc, first, fold)?;
+            let right = merge_parts(alloc, second, fold)?;
+            Ok(merge_rows(alloc, left, right, fold)?)
+        }
+    }
+}
+
+/// The partial of the rows of several partials, in order. Each row is merged once for each time that the number of parts
+/// can be halved. An error is want of memory.
+pub fn merge_all(alloc: Global, parts: &[Arc<Rows>], fold: &Fold) -> Result<Rows, AllocError>
+    ensures { IfOk result (λ found. (lists : List (List (List Value))) → ArePartialsOf fold.now lists (map (λ part. part.value) parts.now) → IsPartialOf fold.now (all_rows lists) found) }
+{
+    Ok(Rows::from_vec(merge_parts(alloc, parts, fold)?))
+}
