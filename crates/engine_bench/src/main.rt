@@ -1,10 +1,11 @@
-//! Parts of the engine, for timing. What it prints is the same whatever the clock says, but for `board times`.
+//! Parts of the engine, for timing. What it prints is the same whatever the clock says, but where `times` is said.
 //!
 //! `engine_bench board [times]`: a scan of a million positions runs through eight roles while its degree changes 64 times.
 //! `engine_bench named|mutex THREADS TURNS`: so many threads take so many turns each, under the named lock or std's mutex.
 //! `engine_bench cached THREADS FETCHES`: so many threads fetch so many pages each through a shared pool that keeps all.
 //! `engine_bench entries COUNT [SIZE]`: so many entries of an index with 1,000,000 of them, or with SIZE, are fetched in a
 //! random order through a pool of 64 pages.
+//! `engine_bench hashes ROWS [times]`: so many keys are looked up in a hash table of as many rows.
 //! `engine_bench heap ROWS` writes a heap file of so many rows, and `engine_bench index ROWS` also the index over as many
 //! entries.
 //! Without words it does a little of each.
@@ -14,6 +15,7 @@ mod board;
 mod disk;
 mod errors;
 mod fetches;
+mod hashes;
 mod heap;
 mod index;
 mod lock;
@@ -23,6 +25,7 @@ mod tally;
 use board::run_boards;
 use errors::BenchErr;
 use fetches::fetch_cached;
+use hashes::run_hashes;
 use heap::write_heap;
 use index::write_entries;
 use lock::{under_mutex, under_named_lock};
@@ -81,6 +84,7 @@ fn main(rt: HostRuntime) -> io::Result<()> {
     let words: Vec<String> = env::args(&rt)?.collect(rt.alloc())?;
     let Some(kind) = words.get(1) else {
         run_boards(&rt, false)?;
+        run_hashes(&rt, 1_000, false)?;
         return match run_all(&rt, rt.alloc()) {
             Ok((turns, found)) => println!(rt; "{turns} turns, {found} entries"),
             Err(error) => println!(rt; "{error}"),
@@ -88,6 +92,10 @@ fn main(rt: HostRuntime) -> io::Result<()> {
     };
     if kind.as_str() == "board" {
         return run_boards(&rt, words.get(2).is_some());
+    }
+    if kind.as_str() == "hashes" {
+        let rows = number_in(words.as_slice(), 2).unwrap_or(0);
+        return run_hashes(&rt, rows, words.get(3).is_some());
     }
     match count(&rt, rt.alloc(), kind.as_str(), words.as_slice()) {
         Ok(number) => println!(rt; "{number}"),
