@@ -56,15 +56,21 @@ of_both fold a b left right found p q e = record {
   is = e ∙ ap (λ l. merged fold l right) p.is ∙ ap (merged fold (partial fold a)) q.is ∙ partials_merged fold a b p.may q.may;
 }
 
-pub all_take : {X : Type 0} (P : X → Type 0) (n : ℕ) (xs : List X) → AllByRecursion P xs → AllByRecursion P (take n xs)
+all_take : {X : Type 0} (P : X → Type 0) (n : ℕ) (xs : List X) → AllByRecursion P xs → AllByRecursion P (take n xs)
 all_take P zero xs all = tt
 all_take P (suc n) [] all = tt
 all_take P (suc n) (x ∷ xs) all = (all.0, all_take P n xs all.1)
 
-pub all_drop : {X : Type 0} (P : X → Type 0) (n : ℕ) (xs : List X) → AllByRecursion P xs → AllByRecursion P (drop n xs)
+all_drop : {X : Type 0} (P : X → Type 0) (n : ℕ) (xs : List X) → AllByRecursion P xs → AllByRecursion P (drop n xs)
 all_drop P zero xs all = all
 all_drop P (suc n) [] all = tt
 all_drop P (suc n) (x ∷ xs) all = all_drop P n xs all.1
+
+pub fit_front : {X : Type 0} (P : X → Type 0) (n : ℕ) (xs front : List X) → front ≡ take n xs → AllByRecursion P xs → AllByRecursion P front
+fit_front P n xs front e all = subst (AllByRecursion P) (sym e) (all_take P n xs all)
+
+pub fit_back : {X : Type 0} (P : X → Type 0) (n : ℕ) (xs back : List X) → back ≡ drop n xs → AllByRecursion P xs → AllByRecursion P back
+fit_back P n xs back e all = subst (AllByRecursion P) (sym e) (all_drop P n xs all)
 
 pub of_halves : (fold : Fold) (n : ℕ) (rows first second left right found : List (List Value)) → first ≡ take n rows → second ≡ drop n rows
     → IsPartialOf fold first left → IsPartialOf fold second right → found ≡ merged fold left right → IsPartialOf fold rows found

@@ -14,8 +14,7 @@ use std::sync::Arc;
 
 // What is known of the group of one row, as a list.
 fn single_partial(alloc: Global, row: &Row, fold: &Fold) -> Result<Vec<Row>, AllocError>
-    requires { IsFoldRow fold.now row.now }
-    ensures { IfOk result (λ found. IsPartialOf fold.now (row.now ∷ []) found.items) }
+    ensures { IfOk result (λ found. IsFoldRow fold.now row.now → IsPartialOf fold.now (row.now ∷ []) found.items) }
 {
     let mut found = Vec::with_capacity(alloc, 1)?;
     found.push(known_row(alloc, row, fold)?)?;
@@ -24,8 +23,7 @@ fn single_partial(alloc: Global, row: &Row, fold: &Fold) -> Result<Vec<Row>, All
 
 // The partial of rows: that of each half, merged.
 fn partial_of(alloc: Global, rows: &[Row], fold: &Fold) -> Result<Vec<Row>, AllocError>
-    requires { AllByRecursion (IsFoldRow fold.now) rows.now }
-    ensures { IfOk result (λ found. IsPartialOf fold.now rows.now found.items) }
+    ensures { IfOk result (λ found. AllByRecursion (IsFoldRow fold.now) rows.now → IsPartialOf fold.now rows.now found.items) }
 {
     match rows {
         [] => Ok(Vec::new(alloc)),
@@ -39,11 +37,10 @@ fn partial_of(alloc: Global, rows: &[Row], fold: &Fold) -> Result<Vec<Row>, Allo
     }
 }
 
-/// What is known of each group of some rows, in ascending order of the groups. Each row has the group values and then a
-/// value for each op, a number or null under `Sum`. An error is want of memory.
+/// What is known of each group of some rows, in ascending order of the groups, where each row has the group values and
+/// then a value for each op, a number or null under `Sum`. An error is want of memory.
 pub fn partial(alloc: Global, rows: &Rows, fold: &Fold) -> Result<Rows, AllocError>
-    requires { AllByRecursion (IsFoldRow fold.now) rows.now }
-    ensures { IfOk result (IsPartialOf fold.now rows.now) }
+    ensures { IfOk result (λ found. AllByRecursion (IsFoldRow fold.now) rows.now → IsPartialOf fold.now rows.now found) }
 {
     Ok(Rows::from_vec(partial_of(alloc, rows.items(), fold)?))
 }

@@ -8,6 +8,8 @@
 //! `engine_bench hashes ROWS [times]`: so many keys are looked up in a hash table of as many rows.
 //! `engine_bench heap ROWS` writes a heap file of so many rows, and `engine_bench index ROWS` also the index over as many
 //! entries.
+//! `engine_bench folds ROWS`: so many rows of 1,000 groups, in parts of 330, are made and folded; `engine_bench rows ROWS`
+//! makes them alone.
 //! Without words it does a little of each.
 #![tactic(auto)]
 
@@ -15,6 +17,7 @@ mod board;
 mod disk;
 mod errors;
 mod fetches;
+mod folds;
 mod hashes;
 mod heap;
 mod index;
@@ -25,6 +28,7 @@ mod tally;
 use board::run_boards;
 use errors::BenchErr;
 use fetches::fetch_cached;
+use folds::{fold_rows, make_rows};
 use hashes::run_hashes;
 use heap::write_heap;
 use index::write_entries;
@@ -67,6 +71,8 @@ fn count<R: Threads + Wait + Sync>(
         "mutex" => Ok(under_mutex(rt, alloc, first as usize, turns)?),
         "cached" => Ok(u64::from(fetch_cached(rt, alloc, first, second.unwrap_or(0))?)),
         "entries" => Ok(u64::from(look_up(alloc, first, second.unwrap_or(1_000_000))?)),
+        "folds" => Ok(fold_rows(alloc, first)?),
+        "rows" => Ok(make_rows(alloc, first)?),
         "heap" => Ok(u64::from(write_heap(alloc, first)?.pages)),
         "index" => Ok(u64::from(write_both(alloc, first)?)),
         _ => Err(BenchErr::Unknown),
