@@ -79,15 +79,6 @@ of_halves fold n rows first second left right found e f p q g =
 
 -- ---- several lists of rows
 
-pub none_mapped : {X Y : Type 0} (f : X → Y) (xs : List X) → length xs < 1 → map f xs ≡ []
-none_mapped f [] h = refl
-none_mapped f (x ∷ xs) h = absurd (omega (arith, h))
-
-pub one_mapped : {X Y : Type 0} (f : X → Y) (xs : List X) (x : X) → 1 ≤ length xs → length xs < 2 → x ≡ get_or xs 0 x → map f xs ≡ f x ∷ []
-one_mapped f [] x low high e = absurd (omega (arith, low))
-one_mapped f (y ∷ []) x low high e = ap (λ z. f z ∷ []) (sym e)
-one_mapped f (y ∷ z ∷ zs) x low high e = absurd (omega (arith, high))
-
 pub front_mapped : {X Y : Type 0} (f : X → Y) (n : ℕ) (xs front : List X) → front ≡ take n xs → take n (map f xs) ≡ map f front
 front_mapped f n xs front e = take-map f n xs ∙ ap (map f) (sym e)
 
@@ -108,15 +99,16 @@ zip_drop R (suc n) [] (y ∷ ys) all = absurd all
 zip_drop R (suc n) (x ∷ xs) [] all = absurd all
 zip_drop R (suc n) (x ∷ xs) (y ∷ ys) all = zip_drop R n xs ys all.1
 
-pub of_no_lists : (fold : Fold) (found : List (List Value)) (lists : List (List (List Value))) → found ≡ [] → ArePartialsOf fold lists [] → IsPartialOf fold (all_rows lists) found
-of_no_lists fold found [] e all = of_none fold found e
-of_no_lists fold found (l ∷ ls) e all = absurd all
-
-pub of_one_list : (fold : Fold) (part found : List (List Value)) (lists : List (List (List Value))) → found ≡ part → ArePartialsOf fold lists (part ∷ []) → IsPartialOf fold (all_rows lists) found
-of_one_list fold part found [] e all = absurd all
-of_one_list fold part found (l ∷ []) e all =
-    subst (λ rows. IsPartialOf fold rows found) (sym (append-nil l)) (subst (IsPartialOf fold l) (sym e) all.0)
-of_one_list fold part found (l ∷ m ∷ ls) e all = absurd all.1
+-- one list at most
+pub few_lists : {X : Type 0} (fold : Fold) (f : X → List (List Value)) (parts : List X) (found : List (List Value)) → length parts < 2 → found ≡ all_rows (map f parts)
+    → (lists : List (List (List Value))) → ArePartialsOf fold lists (map f parts) → IsPartialOf fold (all_rows lists) found
+few_lists fold f [] found h e [] all = of_none fold found e
+few_lists fold f [] found h e (l ∷ ls) all = absurd all
+few_lists fold f (p ∷ []) found h e [] all = absurd all
+few_lists fold f (p ∷ []) found h e (l ∷ []) all =
+    subst (λ rows. IsPartialOf fold rows found) (sym (append-nil l)) (subst (IsPartialOf fold l) (sym (e ∙ append-nil (f p))) all.0)
+few_lists fold f (p ∷ []) found h e (l ∷ m ∷ ls) all = absurd all.1
+few_lists fold f (p ∷ q ∷ ps) found h e lists all = absurd (omega (arith, h))
 
 module _ (fold : Fold) (n : ℕ) (lists parts : List (List (List Value))) (all : ArePartialsOf fold lists parts) where
   pub front_lists : ArePartialsOf fold (take n lists) (take n parts)

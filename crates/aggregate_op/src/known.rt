@@ -179,9 +179,10 @@ fn put_joined_known(
     )
 }
 
-// What is known of a group by two rows of it.
+// What is known of a group by two rows of it. What is in `known` before is lost.
 pub(crate) fn joined_row(
     alloc: Global,
+    known: &mut Vec<Value>,
     left: Row,
     right: &Row,
     fold: &Fold,
@@ -189,9 +190,9 @@ pub(crate) fn joined_row(
     ensures { IfOk result (λ row. row ≡ joined fold.now left right.now) }
 {
     let groups = fold.groups as usize;
-    let mut known = Vec::with_capacity(alloc, known_width(fold))?;
+    known.clear();
     put_joined_known(
-        &mut known,
+        known,
         alloc,
         fold,
         behind(left.items(), groups),
@@ -199,6 +200,6 @@ pub(crate) fn joined_row(
     )?;
     let mut values = left.into_vec();
     values.truncate(groups);
-    values.append(&mut known)?;
+    values.append(known)?;
     Ok(Row::from_vec(values))
 }

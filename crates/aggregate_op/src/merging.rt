@@ -8,7 +8,7 @@ ghost use Rattle.aggregate_op.specs.Sides.{IsNextSide, IsTaken, TakesBoth};
 
 use crate::Fold;
 use crate::known::{front, joined_row};
-use rows::Row;
+use rows::{Row, Value};
 use std::alloc::{AllocError, Global};
 use std::cmp::Ordering;
 
@@ -45,9 +45,10 @@ fn next_side(left: &[Row], right: &[Row], fold: &Fold) -> Side
     }
 }
 
-// What is known of the group of the last rows, which are taken.
+// What is known of the group of the last rows, which are taken. What is in `known` before is lost.
 fn take_both(
     alloc: Global,
+    known: &mut Vec<Value>,
     left: &mut Vec<Row>,
     right: &mut Vec<Row>,
     fold: &Fold,
@@ -57,15 +58,16 @@ fn take_both(
     let first = left.pop();
     let other = right.pop();
     match (first, other) {
-        (Some(first), Some(other)) => Ok(Some(joined_row(alloc, first, &other, fold)?)),
+        (Some(first), Some(other)) => Ok(Some(joined_row(alloc, known, first, &other, fold)?)),
         (first, None) => Ok(first),
         (None, other) => Ok(other),
     }
 }
 
-// The next row of both lists, which is taken from them.
+// The next row of both lists, which is taken from them. What is in `known` before is lost.
 fn take_next(
     alloc: Global,
+    known: &mut Vec<Value>,
     left: &mut Vec<Row>,
     right: &mut Vec<Row>,
     fold: &Fold,
@@ -75,7 +77,7 @@ fn take_next(
     match next_side(left.as_slice(), right.as_slice(), fold) {
         Side::Left => Ok(left.pop()),
         Side::Right => Ok(right.pop()),
-        Side::Both => take_both(alloc, left, right, fold),
+        Side::Both => take_both(alloc, known, left, right, fold),
         Side::Neither => Ok(None),
     }
 }
@@ -89,10 +91,11 @@ pub(crate) fn merge_rows(
 ) -> Result<Vec<Row>, AllocError>
     ensures { IfOk result (λ rows. rows.items ≡ merged fold.now left.items right.items) }
 {
+    let mut known = Vec::new(alloc);
     let mut rows = Vec::with_capacity(alloc, left.len().saturating_add(right.len()))?;
     left.reverse();
     right.reverse();
-    while let Some(row) = take_next(alloc, &mut left, &mut right, fold)? {
+    while let Some(row) = take_next(alloc, &mut known, &mut left, &mut right, fold)? {
         rows.push(row)?;
     }
     Ok(rows)

@@ -1,5 +1,5 @@
 //! What is known of each group of some rows, and of the rows of several parts.
-ghost use Rattle.std.specs.Prelude.{◌++◌, [], ◌∷◌, List, map, IfOk};
+ghost use Rattle.std.specs.Prelude.{◌≡◌, ◌<◌, ◌++◌, [], ◌∷◌, List, map, length, IfOk};
 ghost use Rattle.std.specs.List.{AllByRecursion};
 ghost use Rattle.rows.specs.declared.value.Value.{Value};
 ghost use Rattle.aggregate_op.specs.Partials.{IsFoldRow};
@@ -54,26 +54,48 @@ pub fn merge(alloc: Global, left: &Rows, right: &Rows, fold: &Fold) -> Result<Ro
     Ok(Rows::from_vec(merge_rows(alloc, left, right, fold)?))
 }
 
-// The parts of the first half, merged with those of the second.
-fn merge_parts(alloc: Global, parts: &[Arc<Rows>], fold: &Fold) -> Result<Vec<Row>, AllocError>
-    ensures { IfOk result (λ found. (lists : List (List (List Value))) → ArePartialsOf fold.now lists (map (λ part. part.value) parts.now) → IsPartialOf fold.now (all_rows lists) found.items) }
+// The rows of a part. They are moved where nothing else shares them, and copied else.
+fn rows_of(alloc: Global, part: Arc<Rows>) -> Result<Vec<Row>, AllocError>
+    ensures { IfOk result (λ rows. rows.items ≡ part.value) }
 {
-    match parts {
-        [] => Ok(Vec::new(alloc)),
-        [part] => Ok(part.copy(alloc)?.into_vec()),
-        _ => {
-            let (first, second) = parts.split_at(parts.len() / 2);
-            let left = merge_parts(alloc, first, fold)?;
-            let right = merge_parts(alloc, second, fold)?;
-            Ok(merge_rows(alloc, left, right, fold)?)
-        }
+    match Arc::try_unwrap(part) {
+        Ok(rows) => Ok(rows.into_vec()),
+        Err(shared) => Ok(shared.copy(alloc)?.into_vec()),
     }
 }
 
+// The rows of one part at most.
+fn only_part(alloc: Global, mut parts: Vec<Arc<Rows>>) -> Result<Vec<Row>, AllocError>
+    requires { length parts.items < 2 }
+    ensures { IfOk result (λ rows. rows.items ≡ all_rows (map (λ part. part.value) parts.items)) }
+{
+    match parts.pop() {
+        Some(part) => rows_of(alloc, part),
+        None => Ok(Vec::new(alloc)),
+    }
+}
+
+// The parts of the first half, merged with those of the second.
+fn merge_parts(
+    alloc: Global,
+    mut parts: Vec<Arc<Rows>>,
+    fold: &Fold,
+) -> Result<Vec<Row>, AllocError>
+    ensures { IfOk result (λ found. (lists : List (List (List Value))) → ArePartialsOf fold.now lists (map (λ part. part.value) parts.items) → IsPartialOf fold.now (all_rows lists) found.items) }
+{
+    if parts.len() < 2 {
+        return only_part(alloc, parts);
+    }
+    let second = parts.split_off(parts.len() / 2)?;
+    let left = merge_parts(alloc, parts, fold)?;
+    let right = merge_parts(alloc, second, fold)?;
+    Ok(merge_rows(alloc, left, right, fold)?)
+}
+
 /// The partial of the rows of several partials, in order. Each row is merged once for each time that the number of parts
-/// can be halved. An error is want of memory.
-pub fn merge_all(alloc: Global, parts: &[Arc<Rows>], fold: &Fold) -> Result<Rows, AllocError>
-    ensures { IfOk result (λ found. (lists : List (List (List Value))) → ArePartialsOf fold.now lists (map (λ part. part.value) parts.now) → IsPartialOf fold.now (all_rows lists) found) }
+/// can be halved. The rows of a part that nothing else shares are moved, and not copied. An error is want of memory.
+pub fn merge_all(alloc: Global, parts: Vec<Arc<Rows>>, fold: &Fold) -> Result<Rows, AllocError>
+    ensures { IfOk result (λ found. (lists : List (List (List Value))) → ArePartialsOf fold.now lists (map (λ part. part.value) parts.items) → IsPartialOf fold.now (all_rows lists) found) }
 {
     Ok(Rows::from_vec(merge_parts(alloc, parts, fold)?))
 }

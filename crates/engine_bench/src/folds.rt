@@ -81,7 +81,7 @@ pub fn fold_rows(alloc: Global, rows: u32) -> Result<u64, BenchErr> {
         let part = part_of(alloc, rows_in(rows, number), u64::from(number))?;
         parts.push(Arc::new(alloc, partial(alloc, &part, &fold)?)?)?;
     }
-    let groups = merge_all(alloc, parts.as_slice(), &fold)?;
+    let groups = merge_all(alloc, parts, &fold)?;
     match close_groups(alloc, &groups, &fold)? {
         Closed::Rows(rows) => Ok(rows.len() as u64),
         Closed::TooLarge => Ok(0),
