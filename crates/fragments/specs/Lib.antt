@@ -1,0 +1,5 @@
+pub mod Homes
+pub mod Cuts
+pub mod Scripts
+pub mod Premises
+pub mod Opened

@@ -1,0 +1,15 @@
+//! The fragments that the plans of a script are cut into.
+#![tactic(auto)]
+
+mod cutting;
+mod joins;
+mod known;
+mod layouts;
+mod scans;
+mod time;
+mod tree;
+
+pub use cutting::cut;
+
+/// No memory is left.
+pub type NoMemory = std::alloc::AllocError;
