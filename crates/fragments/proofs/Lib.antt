@@ -6,3 +6,5 @@ mod Sizes
 mod Standing
 mod Steps
 mod SoFar
+mod Typed
+mod Formed
