@@ -8,3 +8,5 @@ mod Steps
 mod SoFar
 mod Typed
 mod Formed
+mod FormedScript
+mod NamedFiles

@@ -1,10 +1,12 @@
 //! The fragments of a script.
 ghost use Rattle.std.specs.Prelude.{◌≡◌, IfOk, map};
 ghost use Rattle.plan_tree.specs.Pieces.{pieces_of};
+ghost use Rattle.std.specs.List.{AllByRecursion};
 ghost use Rattle.plan_tree.specs.Views.{planned_of};
+ghost use Rattle.plan_tree.specs.WellFormed.{AreWellFormed};
 ghost use Rattle.fragments.specs.Homes.{files_known};
 ghost use Rattle.fragments.specs.Opened.{known_of};
-ghost use Rattle.fragments.specs.Premises.{MayCut};
+ghost use Rattle.fragments.specs.Premises.{HasNamedFiles, MayCut};
 ghost use Rattle.fragments.specs.Scripts.{cut_plans};
 
 use crate::NoMemory;
@@ -47,7 +49,9 @@ fn cut_all(
 /// The fragments that the plans of a script are cut into, numbered from 0 in the order of their statements. There are at
 /// most 16 plans, each with a tree of its query and one entry of stats for each variable; the relations of the catalogue
 /// have their files in the map, and `indexes` has one entry for each index file, in the order of the files. A kept
-/// relation is read as the value of the last fragment of the statement that keeps it. An `Err` is want of memory.
+/// relation is read as the value of the last fragment of the statement that keeps it. The fragments are well formed, so the
+/// inputs of each have smaller numbers, and the files that they name are in the map with these kinds and numbers of pages.
+/// An `Err` is want of memory.
 pub fn cut(
     alloc: Global,
     plans: &PlanList,
@@ -58,7 +62,9 @@ pub fn cut(
     kept: &KeptList,
 ) -> Result<FragmentList, NoMemory>
     requires { MayCut (files_known catalog.now files.now indexes.now kept.now) stats.now (map planned_of plans.now) }
-    ensures { IfOk result (λ fragments. pieces_of fragments
+    ensures formed { IfOk result (λ fragments. AreWellFormed (pieces_of fragments)) }
+    ensures files { IfOk result (λ fragments. AllByRecursion (HasNamedFiles files.now.files.items) (pieces_of fragments)) }
+    ensures cut { IfOk result (λ fragments. pieces_of fragments
         ≡ cut_plans (files_known catalog.now files.now indexes.now kept.now) stats.now (map planned_of plans.now)) }
 {
     let known = Known {
