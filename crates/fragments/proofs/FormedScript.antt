@@ -148,13 +148,13 @@ module _ (known : Known) (table : List (List VarStats)) where
 
 -- ---- one statement
 
-at_least : (n i : ℕ) (ks : List Kept) (k : Kept) → AscendFrom n ks → slice_get ks i ≡ Some k → n ≤ k.statement
+pub at_least : (n i : ℕ) (ks : List Kept) (k : Kept) → AscendFrom n ks → slice_get ks i ≡ Some k → n ≤ k.statement
 at_least n i [] k up h = cc
 at_least n zero (x ∷ xs) k up h = let e : x ≡ k = cc in subst (λ (y : Kept). n ≤ y.statement) e up.0
 at_least n (suc i) (x ∷ xs) k up h = (let a = at_least (x.statement + 1) i xs k up.1 h in let b = up.0 in omega (arith, a, b))
 
 -- what is kept by a statement
-kept_is : (n i : ℕ) (ks : List Kept) (k : Kept) → AscendFrom n ks → slice_get ks i ≡ Some k → kept_of ks k.statement ≡ Some k
+pub kept_is : (n i : ℕ) (ks : List Kept) (k : Kept) → AscendFrom n ks → slice_get ks i ≡ Some k → kept_of ks k.statement ≡ Some k
 kept_is n i [] k up h = cc
 kept_is n zero (x ∷ xs) k up h =
     let e : x ≡ k = cc in
@@ -250,6 +250,12 @@ module _ (known : Known) (table : List (List VarStats)) (files : (relation : ℕ
       by true e = refl
       by false e = absurd (let none = scans_none p.tree v e in let less = below_it in let t : nat_lt v (length p.query.vars) ≡ true = grind (arith, nat_tests) in let some : scans p.tree v ≡ 1 = ready.plan.tree.1.once v ∙ ap one_if t in omega (arith, none, some))
 
+    known_below : (v column : ℕ) → is_some (types v column) ≡ true → nat_lt v (length p.query.vars) ≡ true
+    known_below v column h =
+        let k = part_within (listed columns) 0 p.query.vars v (type_some (part_of (layout_in columns p.query) v) column (sym (ap is_some (type_is (layout_in columns p.query) v column)) ∙ h)) in
+        let less : v < length p.query.vars = omega (arith, k) in
+        grind (arith, nat_tests)
+
     no_vars : (tests : List Expression) → p.tree ≡ one tests → p.query.vars ≡ []
     no_vars tests e = by p.query.vars (subst (λ t. scans t 0 ≡ one_if (nat_lt 0 (length p.query.vars))) e (ready.plan.tree.1.once 0)) where
       by : (vars : List Var) → 0 ≡ one_if (nat_lt 0 (length vars)) → vars ≡ []
@@ -258,6 +264,17 @@ module _ (known : Known) (table : List (List VarStats)) (files : (relation : ℕ
 
     typed : AllByRecursion (λ c. is_truth (type_of c types) ≡ true) (conjuncts p.query.test)
     typed = truths p.query.test types ready.resolved.test
+
+    -- the conjuncts name variables of the query alone
+    pub names_own : AllByRecursion (λ c. is_within (λ v. nat_lt v (length p.query.vars)) c ≡ true) (conjuncts p.query.test)
+    names_own = each (conjuncts p.query.test) typed where
+      truth_some : (o : Option LayoutColumn) → is_truth o ≡ true → is_some o ≡ true
+      truth_some None h = cc
+      truth_some (Some c) h = refl
+
+      each : (cs : List Expression) → AllByRecursion (λ c. is_truth (type_of c types) ≡ true) cs → AllByRecursion (λ c. is_within (λ v. nat_lt v (length p.query.vars)) c ≡ true) cs
+      each [] all = tt
+      each (c ∷ cs) all = (typed_within (λ v. nat_lt v (length p.query.vars)) types known_below c (truth_some (type_of c types) all.0), each cs all.1)
 
     alone : (tests : List Expression) → p.tree ≡ one tests → AreTests [] (conjuncts p.query.test)
     alone tests e = subst (λ vars. AllByRecursion (λ c. is_truth (type_of c (column_type (layout_over (listed columns) 0 vars))) ≡ true) (conjuncts p.query.test)) (no_vars tests e) typed

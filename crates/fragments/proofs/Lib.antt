@@ -10,3 +10,7 @@ mod Typed
 mod Formed
 mod FormedScript
 mod NamedFiles
+mod BoundsSet
+mod TreeValues
+mod StoredReads
+mod ScriptValues

@@ -3,3 +3,4 @@ pub mod Cuts
 pub mod Scripts
 pub mod Premises
 pub mod Opened
+pub mod Laws
