@@ -117,13 +117,16 @@ module _ (facts : Facts) (f : ℕ → ℕ → Option LayoutColumn) (count : ℕ)
     kept_formed before v number columns rows tests input all = record {
       source = (refl, refl);
       tests = tt;
-      probes = (record {
-        layouts = refl;
-        ordered = (tt, tt);
-        input = inr (refl, refl, subst (λ c. HasInput before number (λ piece. AnswersColumns c piece.layout piece.end)) (sym (append-nil columns)) input);
-        keys = tt;
-        tests = all;
-      }, refl);
+      probes = (
+        record {
+          layouts = refl;
+          ordered = (tt, tt);
+          input = inr (refl, refl, subst (λ c. HasInput before number (λ piece. AnswersColumns c piece.layout piece.end)) (sym (append-nil columns)) input);
+          keys = tt;
+          tests = all;
+        },
+        refl,
+      );
       few = lit≤ tt;
     }
 
@@ -215,12 +218,13 @@ module _ (facts : Facts) (f : ℕ → ℕ → Option LayoutColumn) (count : ℕ)
           pairs = key_types;
         } in
         let whole : fourth ≡ before ++ (ca.before ++ pa ∷ (cb.before ++ pb ∷ [])) =
-            append_assoc second cb.before (pb ∷ []) ∙ append_assoc first (pa ∷ []) (cb.before ++ pb ∷ []) ∙ append_assoc before ca.before (pa ∷ (cb.before ++ pb ∷ [])) in
+        append_assoc second cb.before (pb ∷ []) ∙ append_assoc first (pa ∷ []) (cb.before ++ pb ∷ []) ∙ append_assoc before ca.before (pa ∷ (cb.before ++ pb ∷ [])) in
         record {
-          pieces = formed_append before ca.before (pa ∷ (cb.before ++ pb ∷ [])) ia.pieces
-              (piece_formed first facts.statement (L a) ca.last (left_sort facts a keys) ia.last (sorts_below (L a) left_columns (build_columns (L a) (L b) keys key_types)),
-              formed_append second cb.before (pb ∷ []) ib.pieces
-              (piece_formed third facts.statement (L b) cb.last (right_sort facts b keys) ib.last (sorts_below (L b) right_columns (probe_columns (L a) (L b) keys key_types)), tt));
+          pieces = formed_append before ca.before (pa ∷ (cb.before ++ pb ∷ [])) ia.pieces (
+            piece_formed first facts.statement (L a) ca.last (left_sort facts a keys) ia.last (sorts_below (L a) left_columns (build_columns (L a) (L b) keys key_types)),
+            formed_append second cb.before (pb ∷ []) ib.pieces
+                (piece_formed third facts.statement (L b) cb.last (right_sort facts b keys) ib.last (sorts_below (L b) right_columns (probe_columns (L a) (L b) keys key_types)), tt),
+          );
           last = subst (λ bs. IsFormed bs (merge_opening facts na nb a b keys tests) (merged (L a) (L b))) whole
               (record { source = (is_merge, refl, refl); tests = test_types; probes = refl; few = lit≤ tt });
         }

@@ -320,9 +320,12 @@ module _ (known : Known) (table : List (List VarStats)) (files : (relation : ℕ
         let c = cut_tree facts n p.tree in
         let pa = closed facts p.tree c.last (answering p.query.targets p.query.unique p.query.keys) in
         let z : number ≡ length before + length c.before = omega (arith, e, size) in
-        let y : length c.before ≡ length c.before + 0 = omega arith in
-        (pa, ap (slice_get (before ++ cut_query facts n p.query p.tree)) z ∙ get_right before (cut_query facts n p.query p.tree) (length c.before)
-        ∙ ap (slice_get (cut_query facts n p.query p.tree)) y ∙ get_right c.before (pa ∷ []) 0, holds)
+        let y : length c.before ≡ length c.before + 0 = omega arith in (
+          pa,
+          ap (slice_get (before ++ cut_query facts n p.query p.tree)) z ∙ get_right before (cut_query facts n p.query p.tree) (length c.before)
+              ∙ ap (slice_get (cut_query facts n p.query p.tree)) y ∙ get_right c.before (pa ∷ []) 0,
+          holds,
+        )
 
     pub answers_next : (before : List Piece) (n : ℕ) → length before ≡ n → AscendFrom 0 known.kept → AreAnswers before lasts →
         AreAnswers (before ++ cut_query facts n p.query p.tree) (lasts ++ last_next known table lasts n p ∷ [])

@@ -14,3 +14,4 @@ mod BoundsSet
 mod TreeValues
 mod StoredReads
 mod ScriptValues
+mod Examples

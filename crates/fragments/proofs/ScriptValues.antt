@@ -1,20 +1,21 @@
 -- The values of the statements' last fragments are the answers of their queries.
-use Rattle.std.proofs.Common.{◌≡◌, ℕ, zero, suc, ◌+◌, ◌-◌, ◌<◌, ◌≤◌, Bool, true, false, ◌==◌, nat_lt, List, [], ◌∷◌, ◌++◌, length, map, Option, Some, None, refl, sym, ap, ◌∙◌, subst, arith, lit≤, length-append, slice_get, inl, inr}
+use Rattle.std.proofs.Common.{◌≡◌, ℕ, zero, suc, ◌+◌, ◌-◌, ◌<◌, ◌≤◌, Bool, true, false, ◌==◌, nat_lt, List, [], ◌∷◌, ◌++◌, length, map, Option, Some, None, refl, sym, ap, ◌∙◌, subst, arith, append_assoc, length-append, slice_get, inl, inr}
 use Rattle.std.specs.Prelude.{⊤, IsTrue, IfSome, All, ◌⊎◌}
 use Rattle.std.specs.List.{flat_map, AllByRecursion, range_with_len}
 use Rattle.std.proofs.lemmas.Bool.{cases_lt}
 use Rattle.std.proofs.lemmas.Bool.Decides.{nat_tests}
-use Rattle.std.proofs.lemmas.List.{map-append}
-use Rattle.std.proofs.lemmas.List.Elements.{All-from_recursion, recursion_from_All}
+use Rattle.std.proofs.lemmas.List.{append-nil, map-append}
+use Rattle.std.proofs.lemmas.List.Elements.{recursion_from_All}
 use Rattle.rows.specs.declared.value.Value.{Value}
 use Rattle.rows.specs.declared.plain.LayoutColumn.{LayoutColumn}
 use Rattle.rows.specs.declared.plain.Relation.{Relation}
 use Rattle.rows.specs.Layouts.{column_in, FitsColumns, one_part}
+use Rattle.rows.specs.RowBytes.{IsRowOf}
 use Rattle.rows.specs.Values.{arranged}
 use Rattle.rel_meaning.specs.declared.query.Table.{Table}
 use Rattle.rel_meaning.specs.declared.query.Var.{Var}
 use Rattle.rel_meaning.specs.Expression.{Expression, Question}
-use Rattle.rel_meaning.specs.Meaning.{listed, meaning, project, rows_at, rows_of}
+use Rattle.rel_meaning.specs.Meaning.{layout_column, listed, meaning, project, rows_at, rows_of}
 use Rattle.heap_page.specs.declared.map.PageFile.{PageFile}
 use Rattle.plan_tree.specs.declared.tree.Method.{Method}
 use Rattle.plan_tree.specs.declared.tree.Way.{Way}
@@ -69,7 +70,7 @@ module _ (files : Stored) (facts : Facts) (db : List Table) (q : Question) (m : 
       let sound = tree_sound (columns_for facts) (rows_for db q.vars) fits (scanned files facts (rows_for db q.vars) fits) (conjuncts q.test) t (once db q m t tree within) tree.placed (inside db q m t tree within) reads in
       ap (arranged q.unique q.keys) (map_flat (λ row. project q.targets (column_in (tree_layout facts t) row)) (piped files now o.pipe) (range_with_len 0 o.positions))
       ∙ stands_mean db q m t tree within (tree_layout facts t) (flat_map (piped files now o.pipe) (range_with_len 0 o.positions))
-        ((cuts files facts (rows_for db q.vars) fits (length q.vars) (length values) t (once db q m t tree within) sound may).stands values now refl right (λ i h. refl))
+      ((cuts files facts (rows_for db q.vars) fits (length q.vars) (length values) t (once db q m t tree within) sound may).stands values now refl right (λ i h. refl))
 
   -- the value of the last fragment, as any later fragment finds it
   pub statement_value : (values later : List (List (List Value))) → AreRight values → Begins (values_after files values (cut_query facts (length values) q t)) later →
@@ -196,7 +197,7 @@ module _ (files : Stored) (known : Known) (db : List Table) (holds : HoldTables 
       | inr above ↦ absurd (
           let e : place ≡ length ready.standing.done + (place - length ready.standing.done) = omega (arith, above) in
           let there : slice_get ready.standing.todo (place - length ready.standing.done) ≡ Some k =
-              sym (get_right ready.standing.done ready.standing.todo (place - length ready.standing.done)) ∙ ap (slice_get (ready.standing.done ++ ready.standing.todo)) (sym e) ∙ sym (ap (λ ks. slice_get ks place) ready.standing.split) ∙ at in
+          sym (get_right ready.standing.done ready.standing.todo (place - length ready.standing.done)) ∙ ap (slice_get (ready.standing.done ++ ready.standing.todo)) (sym e) ∙ sym (ap (λ ks. slice_get ks place) ready.standing.split) ∙ at in
           let late = at_least (length lasts) (place - length ready.standing.done) ready.standing.todo k ready.standing.behind there in
           omega (arith, late, earlier))
     ]
@@ -215,7 +216,7 @@ module _ (files : Stored) (known : Known) (db : List Table) (holds : HoldTables 
       | inr above ↦
           let f : place ≡ length ready.standing.done + (place - length ready.standing.done) = omega (arith, above) in
           let there : slice_get ready.standing.todo (place - length ready.standing.done) ≡ Some k =
-              sym (get_right ready.standing.done ready.standing.todo (place - length ready.standing.done)) ∙ ap (slice_get (ready.standing.done ++ ready.standing.todo)) (sym f) ∙ sym (ap (λ ks. slice_get ks place) ready.standing.split) ∙ at in
+          sym (get_right ready.standing.done ready.standing.todo (place - length ready.standing.done)) ∙ ap (slice_get (ready.standing.done ++ ready.standing.todo)) (sym f) ∙ sym (ap (λ ks. slice_get ks place) ready.standing.split) ∙ at in
           let none = first_todo ready.standing.todo (place - length ready.standing.done) k ready.standing.behind there e in
           omega (arith, f, none)
     ]
@@ -228,9 +229,11 @@ module _ (files : Stored) (known : Known) (db : List Table) (holds : HoldTables 
       right = λ k place number at is. elim (cases_lt k.statement (length lasts)) [
         | inl earlier ↦
             let found = valued.right k place number at (sym (get_left lasts (last_next known table lasts n p ∷ []) k.statement earlier) ∙ is) in
-            let done = place_done k place at earlier in
-            (omega (arith, found.0, long), values_begin files values (cut_query facts n p.query p.tree) number found.0 ∙ found.1
-            ∙ sym (ap rows_at (keep_front (kept_of known.kept (length lasts)) (length known.relations + place) (omega (arith, done, tables_long)))))
+            let done = place_done k place at earlier in (
+              omega (arith, found.0, long),
+              values_begin files values (cut_query facts n p.query p.tree) number found.0 ∙ found.1
+                  ∙ sym (ap rows_at (keep_front (kept_of known.kept (length lasts)) (length known.relations + place) (omega (arith, done, tables_long)))),
+            )
         | inr later ↦
             let l = less_of (lasts ++ last_next known table lasts n p ∷ []) k.statement number is in
             let m = length-append lasts (last_next known table lasts n p ∷ []) in
@@ -241,12 +244,13 @@ module _ (files : Stored) (known : Known) (db : List Table) (holds : HoldTables 
             let kept_now : kept_of known.kept (length lasts) ≡ Some k = ap (kept_of known.kept) (sym e) ∙ kept_is 0 place known.kept k ups at in
             let here = place_here k place at e in
             let end : length known.relations + place ≡ length tables + 0 = omega (arith, here, tables_long) in
-            let value = value_here n (values_after files values (cut_query facts n p.query p.tree)) size (λ i h. refl) in
-            (omega (arith, long, same, size, cut_long),
-            ap (value_at (values_after files values (cut_query facts n p.query p.tree))) (sym same) ∙ value
-            ∙ sym (ap (λ o. rows_of (tables_behind tables o (meaning tables p.query)) (length known.relations + place)) kept_now
-            ∙ ap (rows_of (tables_behind tables (Some k) (meaning tables p.query))) end
-            ∙ ap rows_at (get_right tables (record { columns = k.columns; rows = meaning tables p.query } ∷ []) 0)))
+            let value = value_here n (values_after files values (cut_query facts n p.query p.tree)) size (λ i h. refl) in (
+              omega (arith, long, same, size, cut_long),
+              ap (value_at (values_after files values (cut_query facts n p.query p.tree))) (sym same) ∙ value
+                  ∙ sym (ap (λ o. rows_of (tables_behind tables o (meaning tables p.query)) (length known.relations + place)) kept_now
+                  ∙ ap (rows_of (tables_behind tables (Some k) (meaning tables p.query))) end
+                  ∙ ap rows_at (get_right tables (record { columns = k.columns; rows = meaning tables p.query } ∷ []) 0)),
+            )
       ];
     }
       where
@@ -255,3 +259,58 @@ module _ (files : Stored) (known : Known) (db : List Table) (holds : HoldTables 
 
         cut_long : length (cut_query facts n p.query p.tree) ≡ length (cut_tree facts n p.tree).before + 1
         cut_long = length-append (cut_tree facts n p.tree).before (closed facts p.tree (cut_tree facts n p.tree).last (answering p.query.targets p.query.unique p.query.keys) ∷ [])
+
+  lasts_append : (ps : List Planned) (lasts : List ℕ) (n : ℕ) → (more : List ℕ) × (lasts_from known table lasts n ps ≡ lasts ++ more)
+  lasts_append [] lasts n = ([], sym (append-nil lasts))
+  lasts_append (p ∷ ps) lasts n =
+      let last = last_next known table lasts n p in
+      let rest = lasts_append ps (lasts ++ last ∷ []) (last + 1) in
+      (last ∷ rest.0, rest.1 ∙ append_assoc lasts (last ∷ []) rest.0)
+
+  -- the values of the last fragments, in order
+  script_values : AscendFrom 0 known.kept → (ps : List Planned) (lasts : List ℕ) (columns : List (List LayoutColumn)) (tables : List Table) (n : ℕ) (values later : List (List (List Value))) → length values ≡ n →
+      AreReady known table lasts columns n ps → Valued lasts columns tables values → PlansFit files known ps → Begins (values_after files values (cut_from known table lasts n ps)) later →
+      map (value_at later) (lasts_from known table lasts n ps) ≡ map (value_at later) lasts ++ answers_from tables known.kept (length lasts) (map (λ (p : Planned). p.query) ps)
+  script_values ups [] lasts columns tables n values later size ready valued fit begin = sym (append-nil (map (value_at later) lasts))
+  script_values ups (p ∷ ps) lasts columns tables n values later size ready valued fit begin =
+      let cut = cut_query (facts_next known table lasts p) n p.query p.tree in
+      let last = last_next known table lasts n p in
+      let next = values_after files values cut in
+      let rest = cut_from known table (lasts ++ last ∷ []) (last + 1) ps in
+      let begin2 : Begins (values_after files next rest) later = subst (λ d. Begins d later) (values_append files values cut rest) begin in
+      let there : Begins next later = λ i h. begin2 i (let k = values_length files next rest in omega (arith, k, h)) ∙ values_begin files next rest i h in
+      let longer = values_length files values cut in
+      let much = length-append (cut_tree (facts_next known table lasts p) n p.tree).before (closed (facts_next known table lasts p) p.tree (cut_tree (facts_next known table lasts p) n p.tree).last (answering p.query.targets p.query.unique p.query.keys) ∷ []) in
+      let size2 : length next ≡ last + 1 = omega (arith, longer, much, size) in
+      let long = length-append lasts (last ∷ []) in
+      let here = value_here lasts columns tables values p ready.0 valued fit.0 n later size there in
+      let tables2 = tables_behind tables (kept_of known.kept (length lasts)) (meaning tables p.query) in
+      script_values ups ps (lasts ++ last ∷ []) (columns_behind columns (kept_of known.kept (length lasts))) tables2 (last + 1) next later size2 ready.1
+      (valued_next lasts columns tables values p ready.0 valued fit.0 ups n size) fit.1 begin2
+      ∙ (λ i. map-append (value_at later) lasts (last ∷ []) i ++ answers_from tables2 known.kept (long i) (map (λ (x : Planned). x.query) ps))
+      ∙ append_assoc (map (value_at later) lasts) (value_at later last ∷ []) (answers_from tables2 known.kept (length lasts + 1) (map (λ (x : Planned). x.query) ps))
+      ∙ (λ i. map (value_at later) lasts ++ here i ∷ answers_from tables2 known.kept (length lasts + 1) (map (λ (x : Planned). x.query) ps))
+
+-- the tables of the catalogue fit their columns
+
+table_fits : (relations : List Relation) (db : List Table) → length db ≡ length relations → ((relation : ℕ) (here : Relation) (table : Table) → slice_get relations relation ≡ Some here → slice_get db relation ≡ Some table → AllByRecursion (IsRowOf here.columns) table.rows) →
+    FitColumns (map (λ (here : Relation). map layout_column here.columns) relations) db
+table_fits [] [] same h = tt
+table_fits [] (t ∷ ts) same h = absurd (omega arith)
+table_fits (r ∷ rs) [] same h = absurd (omega arith)
+table_fits (r ∷ rs) (t ∷ ts) same h = (rows_fit t.rows (h 0 r t refl refl), table_fits rs ts (omega (arith, same)) (λ k here table a b. h (suc k) here table a b)) where
+  rows_fit : (rows : List (List Value)) → AllByRecursion (IsRowOf r.columns) rows → AllByRecursion (FitsColumns (map layout_column r.columns)) rows
+  rows_fit [] all = tt
+  rows_fit (row ∷ rows) all = (row_fits r.columns row all.0, rows_fit rows all.1)
+
+-- the fragments of a script that may be cut mean its queries
+pub all_mean : (known : Known) (table : List (List VarStats)) (ps : List Planned) → MayCut known table ps → Mean known table ps (cut_plans known table ps)
+all_mean known table ps may files db holds fit =
+    let narrow = recursion_from_All (λ (here : Relation). length here.columns ≤ 32) known.relations may.narrow in
+    script_values files known db holds table narrow may.files may.kept.ascending ps [] (catalog_columns known) db 0 [] (values_of files (cut_plans known table ps)) refl (all_ready known table ps may)
+    (record {
+      fit = table_fits known.relations db holds.each (λ relation here table a b. (holds.tables relation here table a b).are_rows);
+      front = λ relation less. refl;
+      right = λ k place number at is. cc;
+    })
+    fit (λ i h. refl)

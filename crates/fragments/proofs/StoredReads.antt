@@ -65,7 +65,7 @@ module _ (files : Stored) (known : Known) (db : List Table) (holds : HoldTables 
         let entries = entry_rows files here.columns heap index in
         let read = entries_read here.columns files heap index.file entries has.lead interval.from (interval.upto - interval.from) in
         let as_interval : flat_map (λ p. option_to_list (entry_row files here.columns heap index.file (interval.from + p))) (range_with_len 0 (interval.upto - interval.from)) ≡ interval_rows layout v column bounds entries =
-            read ∙ (λ i. take (left.upto i - left.from i) (drop (left.from i) entries)) in
+        read ∙ (λ i. take (left.upto i - left.from i) (drop (left.from i) entries)) in
         subst (λ rows. Same (kept layout tests rows) (kept layout tests table.rows)) (sym as_interval)
         (sums_of (kept layout tests (interval_rows layout v column bounds entries)) (kept layout tests table.rows)
         (index_reads layout v column tests bounds table.rows entries left.some (bounds_set v column root (conjuncts q.test)) (has.are v)))

@@ -74,7 +74,7 @@ row_again v columns b fits =
     append-nil (values_of (over (one_part v columns) b (column_in [] [])) v 0 columns)
     ∙ ap (λ e. values_of e v 0 columns) (over_one v columns b (column_in [] []) fits)
     ∙ values_again (bind (column_in [] []) v b) v 0 columns b (fits_length columns b fits)
-      (λ k. let l : (v == v) ≡ true = grind (arith, nat_tests) in let m : 0 + k ≡ k = omega arith in ap (λ t. cond t (column_of b (0 + k)) (column_in [] [] v (0 + k))) l ∙ ap (column_of b) m)
+    (λ k. let l : (v == v) ≡ true = grind (arith, nat_tests) in let m : 0 + k ≡ k = omega arith in ap (λ t. cond t (column_of b (0 + k)) (column_in [] [] v (0 + k))) l ∙ ap (column_of b) m)
 
 again : (v : ℕ) (columns : List LayoutColumn) (rows : List (List Value)) → AllByRecursion (FitsColumns columns) rows →
     map (λ b. combined (one_part v columns) (one_part v columns) [] b []) (filter (λ b. true) rows) ≡ rows

@@ -5,6 +5,7 @@ ghost use Rattle.std.specs.List.{AllByRecursion};
 ghost use Rattle.plan_tree.specs.Views.{planned_of};
 ghost use Rattle.plan_tree.specs.WellFormed.{AreWellFormed};
 ghost use Rattle.fragments.specs.Homes.{files_known};
+ghost use Rattle.fragments.specs.Laws.{Mean};
 ghost use Rattle.fragments.specs.Opened.{known_of};
 ghost use Rattle.fragments.specs.Premises.{HasNamedFiles, MayCut};
 ghost use Rattle.fragments.specs.Scripts.{cut_plans};
@@ -51,6 +52,8 @@ fn cut_all(
 /// have their files in the map, and `indexes` has one entry for each index file, in the order of the files. A kept
 /// relation is read as the value of the last fragment of the statement that keeps it. The fragments are well formed, so the
 /// inputs of each have smaller numbers, and the files that they name are in the map with these kinds and numbers of pages.
+/// Over all stored files of the tables, where each index scan has the interval that its query's bounds leave, the value
+/// of each statement's last fragment is the meaning of its query, over the tables and over what earlier statements keep.
 /// An `Err` is want of memory.
 pub fn cut(
     alloc: Global,
@@ -64,6 +67,8 @@ pub fn cut(
     requires { MayCut (files_known catalog.now files.now indexes.now kept.now) stats.now (map planned_of plans.now) }
     ensures formed { IfOk result (λ fragments. AreWellFormed (pieces_of fragments)) }
     ensures files { IfOk result (λ fragments. AllByRecursion (HasNamedFiles files.now.files.items) (pieces_of fragments)) }
+    ensures means { IfOk result (λ fragments. Mean (files_known catalog.now files.now indexes.now kept.now) stats.now
+        (map planned_of plans.now) (pieces_of fragments)) }
     ensures cut { IfOk result (λ fragments. pieces_of fragments
         ≡ cut_plans (files_known catalog.now files.now indexes.now kept.now) stats.now (map planned_of plans.now)) }
 {

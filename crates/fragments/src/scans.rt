@@ -194,6 +194,8 @@ pub(crate) fn kept_open(
         tests: copy_exprs(alloc, tests)?,
         layout: layout_of(alloc, var, kept_layout(alloc, kept)?)?,
     };
+    // Its probe is no join.
+    let joins = 0;
     Ok(Open {
         pipe: Pipe {
             source: Source::One,
@@ -205,6 +207,6 @@ pub(crate) fn kept_open(
         positions: 1,
         pages: 0,
         rows: rows as u128,
-        joins: 0,
+        joins,
     })
 }
