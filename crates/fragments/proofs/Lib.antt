@@ -15,3 +15,4 @@ mod TreeValues
 mod StoredReads
 mod ScriptValues
 mod Examples
+mod FoldedEnds

@@ -4,3 +4,4 @@ pub mod Scripts
 pub mod Premises
 pub mod Opened
 pub mod Laws
+pub mod Folds

@@ -2,6 +2,7 @@
 #![tactic(auto)]
 
 mod cutting;
+mod folding;
 mod joins;
 mod known;
 mod layouts;
@@ -10,6 +11,7 @@ mod time;
 mod tree;
 
 pub use cutting::cut;
+pub use folding::{FoldList, with_folds};
 
 /// No memory is left.
 pub type NoMemory = std::alloc::AllocError;
