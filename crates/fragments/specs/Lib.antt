@@ -1,0 +1,7 @@
+pub mod Homes
+pub mod Cuts
+pub mod Scripts
+pub mod Premises
+pub mod Opened
+pub mod Laws
+pub mod Folds
