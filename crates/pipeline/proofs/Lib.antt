@@ -1,0 +1,13 @@
+pub mod Read
+pub mod Tested
+pub mod Passing
+pub mod Told
+pub mod Oks
+pub mod Taken
+pub mod Joined
+pub mod RowTested
+pub mod Projected
+pub mod Inputs
+pub mod Merging
+pub mod Formed
+pub mod Kept
