@@ -1,0 +1,5 @@
+pub mod Carry
+pub mod Needs
+pub mod Kept
+pub mod Happened
+pub mod Nexts
