@@ -3,3 +3,7 @@ pub mod Needs
 pub mod Kept
 pub mod Happened
 pub mod Nexts
+pub mod Given
+pub mod Loads
+pub mod Gave
+pub mod Finishes

@@ -97,7 +97,7 @@ of_some : (o : Option Part) (f : ℕ) → IsOf o f → (p : Part) × (o ≡ Some
 of_some None f is = absurd is
 of_some (Some p) f is = (p, refl, is)
 
-of_same : (o : Option Part) (f g : ℕ) → IsOf o f → IsOf o g → f ≡ g
+pub of_same : (o : Option Part) (f g : ℕ) → IsOf o f → IsOf o g → f ≡ g
 of_same None f g a b = absurd a
 of_same (Some p) f g a b = sym a ∙ b
 

@@ -1,8 +1,13 @@
 -- What a fragment's board shows, and how it changes.
-use Rattle.std.specs.Prelude.{ℕ, ◌<◌, true, false, ◌≡◌, ◌⊎◌, Bool, ◌&&◌, not, List, Option, Some, None, map}
+use Rattle.std.specs.Prelude.{ℕ, ◌<◌, ◌-◌, true, false, ◌≡◌, ◌⊎◌, Bool, ◌&&◌, not, List, Option, Some, None, map}
 use Rattle.rows.specs.declared.value.Value.{Value}
 use Rattle.adjust_protocol.specs.Full.{Kept}
-use Rattle.adjust_protocol.specs.Moves.{Running, holders, is_free, is_full, wanted}
+use Rattle.adjust_protocol.specs.Answers.{AskAnswer, ask_moves}
+use Rattle.adjust_protocol.specs.Calls.{fresh}
+use Rattle.adjust_protocol.specs.declared.answers.Asked.{Asked}
+use Rattle.adjust_protocol.specs.declared.answers.Asked.TheVariants as asked
+use Rattle.history.specs.Boards.{rule_by}
+use Rattle.adjust_protocol.specs.Moves.{Makes, Running, holders, is_free, is_full, wanted}
 use Rattle.master.specs.declared.slot.AnyBoard.{AnyBoard}
 use Rattle.master.specs.Kind.{Slotted, board_in, by_entries_in, is_running, scan_of}
 
@@ -38,3 +43,29 @@ pub record CollectsBoard (b b' : AnyBoard) (found : Option (List (List (List Val
 pub record Collects (s s' : Slotted) (found : Option (List (List (List Value)))) : Type 0 where
   pub rest : s' ≡ with_board s s'.board.running s'.board.outputs
   pub board : CollectsKept s.board s'.board found
+
+-- ---- a board of either division
+-- it is as it was made
+pub record IsUnbegunBoard (b : AnyBoard) : Type 0 where
+  pub positions : ℕ
+  pub from : ℕ
+  pub room : ℕ
+  pub is : (board_in b).running ≡ fresh (rule_by (by_entries_in b)) positions from room
+
+pub record BeginsBoard (b : AnyBoard) (degree : ℕ) (b' : AnyBoard) : Type 0 where
+  pub begun : (positions from room : ℕ) → (board_in b).running ≡ fresh (rule_by (by_entries_in b)) positions from room → (board_in b').running ≡ fresh (rule_by (by_entries_in b)) positions degree (room - 1)
+  pub kind : by_entries_in b' ≡ by_entries_in b
+  pub outputs : (board_in b').outputs ≡ (board_in b).outputs
+
+pub record AsksBoard (b : AnyBoard) (degree : ℕ) (b' : AnyBoard) (answer : Asked) : Type 0 where
+  pub moves : Makes (rule_by (by_entries_in b)) 64 (board_in b).running (ask_moves degree answer) (board_in b').running
+  pub answers : AskAnswer (board_in b).running (board_in b').running degree answer
+  pub kind : by_entries_in b' ≡ by_entries_in b
+  pub outputs : (board_in b').outputs ≡ (board_in b).outputs
+
+-- the cut that an answer tells
+abbrev pub cut_in : Asked → Option ℕ
+cut_in asked.Pending = None
+cut_in (asked.Cut k) = Some k
+cut_in asked.NoChange = None
+cut_in asked.AlreadyFinished = None

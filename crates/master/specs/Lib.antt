@@ -5,3 +5,5 @@ pub mod Ledger
 pub mod Calls
 pub mod Firsts
 pub mod Answers
+pub mod Gives
+pub mod Finish

@@ -2,17 +2,20 @@
 ghost use Rattle.std.specs.Prelude.{◌≡◌, ℕ, ◌<◌, ◌≤◌, ◌+◌, ◌-◌, ◌++◌, [], ◌∷◌, true, false, length, reverse, slice_set, IfOk, OnErr, is_some, vec_len, vec_capacity};
 ghost use Rattle.page_partition.specs.Scan.{left_of, out_of};
 
+use crate::decide::{decide, give};
 use crate::next::{Next, first_waiting, first_with_seat};
 use crate::places::places_of;
 use crate::room::make_room;
 use crate::slot::Slot;
 use adjust_protocol::{ArcList, Claimed, Seated, Settled};
+use hash_join::Built;
 use history::Event;
-use io_cpu_scheduler::{Decision, Load};
+use io_cpu_scheduler::{Decision, Load, machine_after};
 use page_partition::Batch;
 use rows::{Machine, Rows, StepList};
 use std::alloc::{AllocError, Global};
 use std::marker::{Model, PhantomData};
+use std::sync::Arc;
 
 /// What names a run: its fragments, its machine and steps, and, where they are told, the files that it reads.
 pub trait RunName {
@@ -62,7 +65,9 @@ impl<K: RunName> Control<K> {
     ghost use Rattle.master.specs.Answers.{Claims, NextAnswer, next_events};
     ghost use Rattle.master.specs.Meaning.{run_of};
     ghost use Rattle.history.specs.Allowed.{IsLowest, NoneOpen};
-    ghost use Rattle.history.specs.State.{IsOpen, MaySeat};
+    ghost use Rattle.history.specs.State.{IsOpen, MaySeat, decision_after};
+    ghost use Rattle.io_cpu_scheduler.specs.Decisions.{nothing};
+    ghost use Rattle.master.specs.Finish.{Finishes};
     ghost use Rattle.master.specs.Kind.{scan_of};
     ghost use Rattle.master.specs.Ledger.{Fits, at, scans};
     ghost use Rattle.adjust_protocol.specs.Moves as move;
@@ -226,6 +231,30 @@ impl<K: RunName> Control<K> {
             });
         }
         settled
+    }
+
+    /// The fragment, which is being collected, is finished with this value. In the same step the next
+    /// decision is made, what it adds is started, and what runs is asked for its new degree.
+    pub fn finish(&mut self, fragment: u32, built: Arc<Built>) -> Decision
+        requires fragment { fragment < length self.old.slots }
+        requires collecting { (scans self.old.slots fragment).collecting ≡ true }
+        ensures decision { result ≡ decision_after (run_of K.meaning) (event.Finish fragment nothing ∷ reverse self.old.log) }
+        ensures finishes { Finishes self.old self.new fragment built.value result }
+        ensures fits { Fits K.meaning self.new }
+    {
+        let slot = &mut self.slots[fragment as usize];
+        slot.finish(built);
+        self.needed -= 2;
+        self.finishes += 1;
+        let machine = machine_after(&self.machine, &self.steps, self.finishes);
+        let decision = decide(&self.slots, &mut self.running, &mut self.ready, &machine);
+        self.decision = decision;
+        self.history
+            .push_reserved(Event::Finish { fragment, decision });
+        if let Some(divide) = give(&mut self.slots, &decision) {
+            self.history.push_reserved(divide);
+        }
+        decision
     }
 
     /// Whether a degree is pending.

@@ -2,6 +2,7 @@
 #![tactic(auto)]
 
 mod control;
+mod decide;
 mod next;
 mod places;
 mod room;

@@ -2,7 +2,8 @@
 ghost use Rattle.std.specs.Prelude.{◌≡◌, ℕ, ◌<◌, ◌≤◌, ◌+◌, ◌++◌, ◌==◌, ◌&&◌, not, [], ◌∷◌, true, false, length, IfOk, OnErr, IsTrue, is_some, Some, None, map, replicate};
 ghost use Rattle.std.specs.Bool.{OnTrue};
 ghost use Rattle.page_partition.specs.Scan.{left_of, out_of};
-ghost use Rattle.master.specs.Boards.{CollectsBoard};
+ghost use Rattle.master.specs.Boards.{AsksBoard, BeginsBoard, CollectsBoard, IsUnbegunBoard, cut_in};
+ghost use Rattle.master.specs.Kind.{board_in};
 
 use adjust_protocol::{ArcList, Asked, Board, Claimed, Seated, Settled};
 use hash_join::{Built, Parts};
@@ -292,6 +293,95 @@ impl Slot {
             Some(outputs) => Ok(Some(Parts::from_vec(outputs.into_vec()))),
             None => Ok(None),
         }
+    }
+}
+
+impl Slot {
+    ghost use Rattle.master.specs.Gives.{Asks, Begins, CanGive, GivesOne, IsUnbegun, finished};
+    ghost use Rattle.master.specs.Kind.{is_ended};
+
+    /// The fragment is finished, with this value.
+    pub fn finish(&mut self, value: Arc<Built>)
+        requires { self.old.board.running.collecting ≡ true }
+        ensures { self.new ≡ finished self.old value.value }
+    {
+        self.uncollect();
+        self.phase = Phase::Ended(value);
+    }
+
+    // The fragment begins with a degree.
+    fn begin(&mut self, degree: u32)
+        requires low { 1 ≤ degree }
+        requires high { degree ≤ 64 }
+        requires room { 0 < self.old.board.running.scan.room }
+        requires unbegun { IsUnbegun self.old }
+        ensures { Begins self.old degree self.new }
+    {
+        begin_board(&mut self.board, degree);
+        self.phase = Phase::Runs;
+    }
+
+    // A running fragment is asked for a degree. It answers the cut of the divide that follows at once.
+    fn ask(&mut self, degree: u32) -> Option<u32>
+        requires low { 1 ≤ degree }
+        requires high { degree ≤ 64 }
+        requires room { 0 < self.old.board.running.scan.room }
+        ensures { Asks self.old degree result self.new }
+    {
+        cut_in(ask_board(&mut self.board, degree))
+    }
+
+    /// Starts the fragment with a degree, or asks it for it where it runs. It answers the cut of the divide that
+    /// follows at once.
+    pub fn give(&mut self, degree: u32) -> Option<u32>
+        requires low { 1 ≤ degree }
+        requires high { degree ≤ 64 }
+        requires can { CanGive self.old }
+        ensures { GivesOne self.old degree result self.new }
+    {
+        match &self.phase {
+            Phase::Waiting => {
+                self.begin(degree);
+                None
+            }
+            Phase::Runs => self.ask(degree),
+            Phase::Ended(_) => None,
+        }
+    }
+}
+
+// The cut that an answer tells.
+fn cut_in(answer: Asked) -> Option<u32>
+    ensures { result ≡ cut_in answer }
+{
+    match answer {
+        Asked::Cut(cut) => Some(cut),
+        _ => None,
+    }
+}
+
+fn begin_board(board: &mut AnyBoard, degree: u32)
+    requires low { 1 ≤ degree }
+    requires high { degree ≤ 64 }
+    requires room { 0 < (board_in board.old).running.scan.room }
+    requires unbegun { IsUnbegunBoard board.old }
+    ensures { BeginsBoard board.old degree board.new }
+{
+    match board {
+        AnyBoard::Pages(board) => board.begin(degree),
+        AnyBoard::Entries(board) => board.begin(degree),
+    }
+}
+
+fn ask_board(board: &mut AnyBoard, degree: u32) -> Asked
+    requires low { 1 ≤ degree }
+    requires high { degree ≤ 64 }
+    requires room { 0 < (board_in board.old).running.scan.room }
+    ensures { AsksBoard board.old degree board.new result }
+{
+    match board {
+        AnyBoard::Pages(board) => board.ask(degree),
+        AnyBoard::Entries(board) => board.ask(degree),
     }
 }
 
