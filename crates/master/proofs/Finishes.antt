@@ -118,7 +118,7 @@ kept_given m o fin k later h before slots slots' t mach divide base giving are i
     let below : (f : ℕ) → f < length slots' → f < length slots = λ f lt. omega arith in
     let now : Follows (run_of m) (reverse later) (scans slots') = subst (λ xs. Follows (run_of m) xs (scans slots')) (sym giving.is) follows in
     let calms : (f : ℕ) → f < length slots' → IsDue (scans slots' f) → ⊥ = λ f lt.
-        let l = below f lt in given_calm (given t.decision f) (cut_for divide f) (at slots f) (at slots' f) (base.unbegun f l) (base.calm f l) (given'.each f l) in
+    let l = below f lt in given_calm (given t.decision f) (cut_for divide f) (at slots f) (at slots' f) (base.unbegun f l) (base.calm f l) (given'.each f l) in
     record {
       fits = record {
         started = λ e. giving.some (sym giving.is ∙ ap reverse e);
@@ -215,7 +215,7 @@ ended_base m log slots t g v e n =
     ended_each (λ f s. IsBase (run_of m) (λ q. begun (reverse log) q) (λ q. is_finished (event.Finish g e ∷ reverse log) q) f s) slots g v n.inside
     (record { kind = here.kind; inputs = here.inputs; load = here.load; has_begun = ap is_some d.1; has_ended = simp self })
     (λ f l ne. let of = k.fits.each f l in let other = ne_eqb g f (λ x. ne (sym x)) in
-       record { kind = of.kind; inputs = of.inputs; load = of.load; has_begun = of.has_begun; has_ended = simp other of.has_ended })
+    record { kind = of.kind; inputs = of.inputs; load = of.load; has_begun = of.has_begun; has_ended = simp other of.has_ended })
 
 pub ended_slots : (m : Meaning) (log : List Event) (slots : List Slotted) (t : Tools) (g : ℕ) (v : Table) → IsEnding m log slots t g → AreSlots (run_of m) (event.Finish g nothing ∷ reverse log) (ended_at slots g v)
 ended_slots m log slots t g v n = record {
@@ -321,25 +321,32 @@ finish_follows m log slots slots' t g v d divide n decides given' = go divide re
   where
     k : IsKept m log slots t
     k = n.kept
+
     size : length (ended_at slots g v) ≡ length slots
     size = length-set slots g (finished (at slots g) v)
+
     inside : g < length (run_of m).fragments
     inside = within_run m log slots t g n.kept n.inside
+
     below : (f : ℕ) → f < length (run_of m).fragments → f < length slots
     below f lt = (let e = n.kept.fits.size in omega arith)
+
     -- the board of the finished fragment
     made : Makes (rule_of (run_of m) g) (run_of m).machine.batch (scans slots g) (move.Uncollect ∷ []) (scans slots' g)
     made =
         let stays = ended_stays (given d g) (cut_for divide g) (at (ended_at slots g v) g) (at slots' g) (ap is_ended (ended_here slots g v n.inside)) (given'.each g (let s = size in let i = n.inside in omega arith)) in
         (((n.kept.calm g n.inside, n.collecting), tt), ap scan_of (stays ∙ ended_here slots g v n.inside))
+
     each : (f : ℕ) → f < length slots → f ≢ g → GivesSlot (given d f) (cut_for divide f) (at slots f) (at slots' f)
     each f lt ne = subst (λ x. GivesSlot (given d f) (cut_for divide f) x (at slots' f)) (ended_other slots g f v ne) (given'.each f (let s = size in omega arith))
+
     gives : (f : ℕ) → f < length (run_of m).fragments → (g ≡ f → ⊥) → cut_for divide f ≡ None → GivenTo (run_of m) f (begun (reverse log) f) (is_finished (reverse log) f) (given d f) (scans slots f) (scans slots' f)
     gives f lt ne none =
         let l = below f lt in
         let of = n.kept.fits.each f l in
         to_given (run_of m) f (begun (reverse log) f) (given d f) (is_finished (reverse log) f) (moves_of (reverse log) f) (at slots f) (at slots' f) of.kind of.has_begun of.has_ended (n.kept.fits.follows.each f lt)
         (subst (λ c. GivesSlot (given d f) c (at slots f) (at slots' f)) none (each f l (λ x. ne (sym x))))
+
     calm : (f : ℕ) → f < length (run_of m).fragments → IsDue (scans slots' f) → ⊥
     calm f lt = (let l = below f lt in
         elim (cases_eq f g) [
@@ -347,6 +354,7 @@ finish_follows m log slots slots' t g v d divide n decides given' = go divide re
           | inr ne ↦ given_calm (given d f) (cut_for divide f) (at slots f) (at slots' f)
               (unbegun_of (run_of m) f (begun (reverse log) f) (moves_of (reverse log) f) (at slots f) (n.kept.fits.each f l).kind (n.kept.fits.each f l).has_begun (n.kept.fits.follows.each f lt)) (n.kept.calm f l) (each f l ne)
         ])
+
     go : (o : Option Event) → divide ≡ o → Follows (run_of m) (reverse (log ++ finish_events g d o)) (scans slots')
     go None e =
         let b = begun_one m log slots t g n in
@@ -366,8 +374,8 @@ finish_follows m log slots slots' t g v d divide n decides given' = go divide re
         let moves = to_cut (run_of m) cut.0 cut.1 cut.2 (at slots cut.0) (at slots' cut.0) (n.kept.fits.each cut.0 lc).kind still.1 one' in
         subst (λ y. Follows (run_of m) (reverse (log ++ event.Finish g d ∷ y ∷ [])) (scans slots')) (sym cut.3)
         (subst (λ xs. Follows (run_of m) xs (scans slots')) (sym (reverse-append log (event.Finish g d ∷ event.Divide cut.0 cut.1 cut.2 ∷ [])))
-           (follows_finish_cut (run_of m) (reverse log) (scans slots) (scans slots') g b.0 cut.0 began.0 cut.1 cut.2 d n.kept.within n.kept.fits.follows n.kept.fits.whole inside b.1 decides made in_run still.0 began.1 ran cut.5 moves
-              (λ f lt ne other. gives f lt ne (ap (λ y. cut_for y f) is ∙ none_elsewhere cut.0 cut.1 cut.2 f other)) (λ f lt ne due. calm f lt due)))
+        (follows_finish_cut (run_of m) (reverse log) (scans slots) (scans slots') g b.0 cut.0 began.0 cut.1 cut.2 d n.kept.within n.kept.fits.follows n.kept.fits.whole inside b.1 decides made in_run still.0 began.1 ran cut.5 moves
+        (λ f lt ne other. gives f lt ne (ap (λ y. cut_for y f) is ∙ none_elsewhere cut.0 cut.1 cut.2 f other)) (λ f lt ne due. calm f lt due)))
 
 -- which events a finish adds, the latest first
 giving_finish : (m : Meaning) (log later : List Event) (slots : List Slotted) (t : Tools) (g : ℕ) (v : Table) (d : Decision) (divide : Option Event) (t' : Tools) → IsKept m log slots t → t'.decision ≡ d → t'.finishes ≡ t.finishes + 1

@@ -97,7 +97,7 @@ part_all slots slots' (Some p) divide can gives f lt =
           let cut : cut_for divide f ≡ gives.0 = ap (λ o. cut_for o f) gives.1 ∙ ap (λ q. cut_for (divide_of p gives.0) q) (sym e) ∙ cut_of_divide p gives.0 in
           rw self
           (subst (λ x. GivesOne (at slots f) p.degree (cut_for divide f) x) (sym there)
-             (subst (λ k. GivesOne (at slots f) p.degree k gives.2) (sym cut) (subst (λ q. GivesOne (at slots q) p.degree gives.0 gives.2) e gives.3)))
+          (subst (λ k. GivesOne (at slots f) p.degree k gives.2) (sym cut) (subst (λ q. GivesOne (at slots q) p.degree gives.0 gives.2) e gives.3)))
       | inr ne ↦
           let other = ne_eqb p.fragment f ne in
           rw other
@@ -185,7 +185,7 @@ gives_all slots mid slots' d e1 e2 can1 can2 two one size1 other size2 = record 
   each = λ f lt.
       subst (λ c. GivesSlot (given d f) c (at slots f) (at slots' f)) (sym (either_cut e1 e2 f single))
       (both_slots (part_for d.first f) (part_for d.second f) (cut_for e1 f) (cut_for e2 f) (at slots f) (at mid f) (at slots' f) (apart f)
-         (part_all slots mid d.first e1 can1 one f lt) (part_all mid slots' d.second e2 (can_second slots mid d e1 two one size1 can2) other f (omega arith)));
+      (part_all slots mid d.first e1 can1 one f lt) (part_all mid slots' d.second e2 (can_second slots mid d e1 two one size1 can2) other f (omega arith)));
   cut = cuts e1 refl;
 }
   where
@@ -194,25 +194,37 @@ gives_all slots mid slots' d e1 e2 can1 can2 two one size1 other size2 = record 
         let p = part_named d.first f n e in
         let q = part_named d.second f k e' in
         two.apart p.0 q.0 p.1 q.1 (p.2 ∙ sym q.2))
+
     single : (x : Event) → e1 ≡ Some x → e2 ≡ None
     single x e = event_none e2 (λ y e'.
         let p = divides slots mid d.first x (subst (λ o. GivesPart slots d.first o mid) e one) in
         let q = divides mid slots' d.second y (subst (λ o. GivesPart mid d.second o slots') e' other) in
         two.one p.0 q.0 p.2 q.2 p.4 (sym (ap is_running (mid_at slots mid d.first e1 q.0 one (λ p' i. two.apart p' q.0 i q.2))) ∙ q.4))
+
     first_given : (p : Part) → d.first ≡ Some p → given d p.fragment ≡ Some p.degree
     first_given p e = ap (λ o. earlier_of o (part_for d.second p.fragment)) (part_here d.first p e)
+
     second_given : (q : Part) → d.second ≡ Some q → given d q.fragment ≡ Some q.degree
     second_given q e =
         let none : part_for d.first q.fragment ≡ None = some_none (part_for d.first q.fragment) (λ n e'. let p = part_named d.first q.fragment n e' in two.apart p.0 q p.1 e p.2) in
         ap (λ o. earlier_of o (part_for d.second q.fragment)) none ∙ part_here d.second q e
+
     inside_of : (o : Option Part) (p : Part) → o ≡ Some p → IfSome o (CanTake slots) → p.fragment < length slots
     inside_of o p e h = (let can = subst (λ x. IfSome x (CanTake slots)) e h in can.inside)
+
     second_cut : (o : Option Event) → e2 ≡ o → IsCut slots d o
     second_cut None e = tt
     second_cut (Some y) e =
-        let q = divides mid slots' d.second y (subst (λ o. GivesPart mid d.second o slots') e other) in
-        (q.0.fragment, q.0.degree, q.1, q.3, inside_of d.second q.0 q.2 can2, second_given q.0 q.2,
-         sym (ap is_running (mid_at slots mid d.first e1 q.0 one (λ p' i. two.apart p' q.0 i q.2))) ∙ q.4)
+        let q = divides mid slots' d.second y (subst (λ o. GivesPart mid d.second o slots') e other) in (
+          q.0.fragment,
+          q.0.degree,
+          q.1,
+          q.3,
+          inside_of d.second q.0 q.2 can2,
+          second_given q.0 q.2,
+          sym (ap is_running (mid_at slots mid d.first e1 q.0 one (λ p' i. two.apart p' q.0 i q.2))) ∙ q.4,
+        )
+
     cuts : (o : Option Event) → e1 ≡ o → IsCut slots d (either o e2)
     cuts None e = second_cut e2 refl
     cuts (Some x) e =

@@ -7,3 +7,4 @@ pub mod Given
 pub mod Loads
 pub mod Gave
 pub mod Finishes
+pub mod Begins

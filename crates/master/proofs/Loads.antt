@@ -65,9 +65,9 @@ loads_are run t u (x ∷ xs) q each =
     let load : x.load ≡ load_of run q = first.0 ∙ ap (λ k. load_of run k) z in
     let test : t x ≡ u q = first.1 ∙ ap u z in
     let rest = loads_are run t u xs (suc q) (λ k lt.
-        let e = each (suc k) (omega arith) in
-        let s : q + suc k ≡ suc q + k = omega arith in
-        (e.0 ∙ ap (λ j. load_of run j) s, e.1 ∙ ap u s)) in
+    let e = each (suc k) (omega arith) in
+    let s : q + suc k ≡ suc q + k = omega arith in
+    (e.0 ∙ ap (λ j. load_of run j) s, e.1 ∙ ap u s)) in
     elim (cases_Bool (u q)) [
       | inl y ↦ let yes' = test ∙ y in simp (yes', y) (ap (λ l. l ∷ map (λ (s : Slotted). s.load) (filter t xs)) load ∙ ap (λ ls. load_of run q ∷ ls) rest)
       | inr z ↦ let no' = test ∙ z in simp (no', z) rest
@@ -159,8 +159,7 @@ part_fits run h slots mach p are machine part =
     let same : p.fragment ≡ l.0 = sym part.from.2 ∙ ap (λ (x : Load). x.fragment) l.2 in
     let below = l.1 in
     let most = part.most in
-    let limit = machine.backends in
-    (
+    let limit = machine.backends in (
       (let s = same in omega arith),
       part.some,
       omega arith,

@@ -7,3 +7,4 @@ pub mod Firsts
 pub mod Answers
 pub mod Gives
 pub mod Finish
+pub mod Starts

@@ -1,5 +1,5 @@
 //! The state of a run.
-ghost use Rattle.std.specs.Prelude.{◌≡◌, ℕ, ◌<◌, ◌≤◌, ◌+◌, ◌-◌, ◌++◌, [], ◌∷◌, true, false, length, reverse, slice_set, IfOk, OnErr, is_some, vec_len, vec_capacity};
+ghost use Rattle.std.specs.Prelude.{◌≡◌, ℕ, ◌<◌, ◌≤◌, ◌+◌, ◌-◌, ◌++◌, [], ◌∷◌, true, false, length, reverse, slice_set, IfOk, OnErr, is_some, None, vec_len, vec_capacity};
 ghost use Rattle.page_partition.specs.Scan.{left_of, out_of};
 
 use crate::decide::{decide, give};
@@ -7,11 +7,13 @@ use crate::next::{Next, first_waiting, first_with_seat};
 use crate::places::places_of;
 use crate::room::make_room;
 use crate::slot::Slot;
+use crate::start::start_slots;
 use adjust_protocol::{ArcList, Claimed, Seated, Settled};
 use hash_join::Built;
 use history::Event;
 use io_cpu_scheduler::{Decision, Load, machine_after};
 use page_partition::Batch;
+use plan_tree::FragmentList;
 use rows::{Machine, Rows, StepList};
 use std::alloc::{AllocError, Global};
 use std::marker::{Model, PhantomData};
@@ -68,12 +70,59 @@ impl<K: RunName> Control<K> {
     ghost use Rattle.history.specs.State.{IsOpen, MaySeat, decision_after};
     ghost use Rattle.io_cpu_scheduler.specs.Decisions.{nothing};
     ghost use Rattle.master.specs.Finish.{Finishes};
+    ghost use Rattle.master.specs.Gives.{AllGiven};
+    ghost use Rattle.master.specs.Starts.{starts};
+    ghost use Rattle.io_cpu_scheduler.specs.Limits.{IsMachine, IsStep};
+    ghost use Rattle.plan_tree.specs.Pieces.{pieces_of};
+    ghost use Rattle.plan_tree.specs.WellFormed.{AreWellFormed};
+    ghost use Rattle.std.specs.List.{AllByRecursion};
     ghost use Rattle.master.specs.Kind.{scan_of};
     ghost use Rattle.master.specs.Ledger.{Fits, at, scans};
     ghost use Rattle.adjust_protocol.specs.Moves as move;
     ghost use Rattle.adjust_protocol.specs.Moves.{is_held};
     ghost use Rattle.adjust_protocol.specs.Answers.{SettleAnswer, claim_moves};
     ghost use Rattle.history.specs.declared.event.Event.TheVariants as event;
+
+    /// A run of these fragments on this machine, with the steps by which it changes, and its first
+    /// decision. An error is want of memory.
+    pub fn new(
+        alloc: Global,
+        fragments: &FragmentList,
+        machine: Machine,
+        steps: &StepList,
+    ) -> Result<Control<K>, AllocError>
+        requires fragments { fragments.now ≡ K.meaning.fragments }
+        requires formed { AreWellFormed (pieces_of fragments.now) }
+        requires machine { machine ≡ K.meaning.machine }
+        requires limits { IsMachine machine }
+        requires steps { steps.now ≡ K.meaning.steps }
+        requires within { AllByRecursion IsStep steps.now }
+        ensures events { IfOk result (λ c. c.log ≡ event.Begin (decision_after (run_of K.meaning) []) ∷ []) }
+        ensures slots { IfOk result (λ c. AllGiven (starts fragments.now) (decision_after (run_of K.meaning) []) None c.slots) }
+        ensures fits { IfOk result (Fits K.meaning) }
+    {
+        let mut history = Vec::with_capacity(alloc, 1)?;
+        let mut running = Vec::with_capacity(alloc, fragments.len())?;
+        let mut ready = Vec::with_capacity(alloc, fragments.len())?;
+        let steps = steps.copy(alloc)?;
+        let mut slots = start_slots(alloc, fragments.items())?;
+        let first = machine_after(&machine, &steps, 0);
+        let decision = decide(&slots, &mut running, &mut ready, &first);
+        history.push_reserved(Event::Begin { decision });
+        let _none = give(&mut slots, &decision);
+        Ok(Control {
+            slots,
+            history,
+            machine,
+            steps,
+            decision,
+            finishes: 0,
+            needed: 0,
+            running,
+            ready,
+            name: PhantomData,
+        })
+    }
 
     /// What the backend does next. The first of these that fits is the answer: `Collect`, of the lowest
     /// fragment whose scan is done and that nobody collects; `Job`, at the lowest running fragment that has

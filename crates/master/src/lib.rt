@@ -7,6 +7,7 @@ mod next;
 mod places;
 mod room;
 mod slot;
+mod start;
 
 pub use control::{Control, RunName};
 pub use next::Next;

@@ -3,12 +3,17 @@ ghost use Rattle.std.specs.Prelude.{◌≡◌, ℕ, ◌<◌, ◌≤◌, ◌+◌,
 ghost use Rattle.std.specs.Bool.{OnTrue};
 ghost use Rattle.page_partition.specs.Scan.{left_of, out_of};
 ghost use Rattle.master.specs.Boards.{AsksBoard, BeginsBoard, CollectsBoard, IsUnbegunBoard, cut_in};
-ghost use Rattle.master.specs.Kind.{board_in};
+ghost use Rattle.master.specs.Kind.{board_in, by_entries_in};
+ghost use Rattle.master.specs.Starts.{start_of};
+ghost use Rattle.adjust_protocol.specs.Calls.{fresh};
+ghost use Rattle.history.specs.Boards.{rule_by};
 
+use crate::start::inputs_of;
 use adjust_protocol::{ArcList, Asked, Board, Claimed, Seated, Settled};
 use hash_join::{Built, Parts};
 use io_cpu_scheduler::Load;
 use page_partition::{Batch, PageStride};
+use plan_tree::Fragment;
 use range_partition::EntryIntervals;
 use rows::Rows;
 use std::alloc::{AllocError, Global};
@@ -50,13 +55,36 @@ impl Model for Slot {
 impl Slot {
     ghost use Rattle.master.specs.Kind.{Slotted, is_ended, is_running, is_waiting};
     ghost use Rattle.master.specs.Boards.{Collects, HasSeat, collected_as, with_board, waits};
-    ghost use Rattle.history.specs.Boards.{rule_by};
     ghost use Rattle.adjust_protocol.specs.Moves as move;
     ghost use Rattle.adjust_protocol.specs.Moves.{Makes, holders, is_free, is_full, is_held, wanted};
     ghost use Rattle.adjust_protocol.specs.Answers.{AskAnswer, ClaimAnswer, SeatAnswer, SettleAnswer, ask_moves, claim_moves, seat_moves, settle_moves};
     ghost use Rattle.adjust_protocol.specs.Full.{CollectAnswer};
     ghost use Rattle.adjust_protocol.specs.Kept.{IsCalm};
     ghost use Rattle.adjust_protocol.specs.Outputs.{put_outputs};
+
+    /// A fragment that hasn't begun, of this number. Its board has room for so many asks. An error is want of memory.
+    pub fn new(
+        alloc: Global,
+        number: u32,
+        fragment: &Fragment,
+        asks: u32,
+    ) -> Result<Slot, AllocError>
+        requires { asks ≤ 1000 }
+        ensures { IfOk result (λ slot. slot ≡ start_of number asks fragment.now) }
+    {
+        let inputs = inputs_of(alloc, fragment)?;
+        let board = new_board(alloc, fragment.by_entries(), fragment.positions, asks)?;
+        Ok(Slot {
+            board,
+            inputs,
+            load: Load {
+                fragment: number,
+                pages: fragment.pages,
+                time: fragment.time,
+            },
+            phase: Phase::Waiting,
+        })
+    }
 
     pub fn is_running(&self) -> bool
         ensures { result ≡ is_running self.now }
@@ -347,6 +375,24 @@ impl Slot {
             Phase::Runs => self.ask(degree),
             Phase::Ended(_) => None,
         }
+    }
+}
+
+// A board of either division, which has not begun.
+fn new_board(
+    alloc: Global,
+    by_entries: bool,
+    positions: u32,
+    asks: u32,
+) -> Result<AnyBoard, AllocError>
+    requires { asks ≤ 1000 }
+    ensures kind { IfOk result (λ b. by_entries_in b ≡ by_entries) }
+    ensures board { IfOk result (λ b. board_in b ≡ record { running = fresh (rule_by by_entries) positions 1 (asks + 1); outputs = replicate positions None }) }
+{
+    if by_entries {
+        Ok(AnyBoard::Entries(Board::new(alloc, positions, 1, asks)?))
+    } else {
+        Ok(AnyBoard::Pages(Board::new(alloc, positions, 1, asks)?))
     }
 }
 

@@ -12,10 +12,10 @@ pub returns-in-Some : goal.returns-in-Some
 returns-in-Some c =
     subst (λ (o : Option Event). AllGiven c.args.slots.now c.args.decision.now (either o c.give_part-second.result) c.give_part-second.new.slots) c.in-Some.is
     (gives_all c.args.slots.now c.give_part-first.new.slots c.give_part-second.new.slots c.args.decision.now c.give_part-first.result c.give_part-second.result c.requires.first c.requires.second c.requires.two
-       c.give_part-first.ensures.gives c.give_part-first.ensures.size c.give_part-second.ensures.gives c.give_part-second.ensures.size)
+    c.give_part-first.ensures.gives c.give_part-first.ensures.size c.give_part-second.ensures.gives c.give_part-second.ensures.size)
 
 pub returns-in-None : goal.returns-in-None
 returns-in-None c =
     subst (λ (o : Option Event). AllGiven c.args.slots.now c.args.decision.now (either o c.give_part-second.result) c.give_part-second.new.slots) c.in-None.is
     (gives_all c.args.slots.now c.give_part-first.new.slots c.give_part-second.new.slots c.args.decision.now c.give_part-first.result c.give_part-second.result c.requires.first c.requires.second c.requires.two
-       c.give_part-first.ensures.gives c.give_part-first.ensures.size c.give_part-second.ensures.gives c.give_part-second.ensures.size)
+    c.give_part-first.ensures.gives c.give_part-first.ensures.size c.give_part-second.ensures.gives c.give_part-second.ensures.size)
