@@ -2,7 +2,7 @@
 use Rattle.std.proofs.Common.{◌≡◌, ◌≢◌, ℕ, zero, suc, ◌+◌, ◌-◌, ◌*◌, ◌<◌, ◌≤◌, ◌⊎◌, ◌^◌, not, Bool, true, false, cond, List, [], ◌∷◌, ◌++◌, length, map, take, drop, replicate, reverse, get_or, refl, ap, sym, ◌∙◌, subst, inl, inr, arith, Option, Some, None, IfSome, is_some, slice_get, append_assoc, drop-cons, ltb, count_by}
 use Rattle.std.specs.List.{All, AllByRecursion, sum_by}
 use Rattle.std.proofs.lemmas.Bool.{cases_lt, true≢false}
-use Rattle.std.proofs.lemmas.List.{get_or_past, length-map, length-take, take_more}
+use Rattle.std.proofs.lemmas.List.{get_or_past, length-map, length-replicate, length-take, take_more}
 use Rattle.std.proofs.lemmas.List.Sums.{sum_by-cons}
 use Rattle.rows.specs.declared.plain.Column.{Column}
 use Rattle.rows.specs.declared.plain.LayoutPart.{LayoutPart}
@@ -35,6 +35,8 @@ use Rattle.history.proofs.Follows.{follows_begin}
 use Rattle.master.specs.Gives.{AllGiven, AreTwo, CanGive, IsCut, ready_in, running_in}
 use Rattle.master.specs.Kind.{Slotted, is_ended, is_running, scan_of}
 use Rattle.master.specs.Ledger.{HasAsks, IsKept, IsSlotOf, Tools, at, need, no_slot, outs_below, scans, unended}
+use Rattle.master.specs.Content.{HasContent}
+use Rattle.master.proofs.Contents.{none_there}
 use Rattle.master.proofs.Finishes.{AreBase, IsDecided, IsGiving, kept_given}
 use Rattle.master.proofs.Gave.{Unbegun, to_given}
 use Rattle.master.proofs.Given.{unbegun_idle}
@@ -229,8 +231,10 @@ kept_begin m later slots' t mach d divide within formed machine is given₀ item
       small = (let few = formed.few in let l = length-map m.fragments piece_of in omega arith);
       size = (start_are m).size;
       each = λ f lt. let of = (start_are m).each f lt in record { kind = of.kind; inputs = of.inputs; load = of.load; has_begun = of.has_begun; has_ended = of.has_ended };
+      content = start_each (HasContent m) m (λ f F lt out. record { size = length-replicate F.positions None ∙ ap (λ (o : Outline). o.positions) (sym out); outputs = λ p rows e. absurd (none_there F.positions p rows e); value = λ v e. absurd (cc) });
       unbegun = start_each (λ f s. Unbegun s) m (λ f F lt out w. (F.positions, 1, length m.fragments + 1, refl));
       calm = start_each (λ f s. IsDue (scan_of s) → ⊥) m (λ f F lt out due. due.0 refl);
+      fed = λ f lt e. absurd (true≢false (sym e ∙ still_none m f lt));
       asks = subst (λ n. (f : ℕ) → f < length (starts m.fragments) → HasAsks n 0 (at (starts m.fragments) f)) (sym size) (start_each (λ f s. HasAsks (length m.fragments) 0 s) m (λ f F lt out. omega arith));
       fewer = omega arith;
       more = λ f lt e. absurd (true≢false (sym e ∙ still_none m f lt));

@@ -1,6 +1,6 @@
 -- A decision given to all fragments, at the begin of a run and at a finish, keeps a control as it must be.
 use Rattle.std.proofs.Common.{◌≡◌, ◌≢◌, ℕ, zero, suc, ◌+◌, ◌-◌, ◌*◌, ◌<◌, ◌≤◌, ◌⊎◌, ◌&&◌, not, Bool, true, false, cond, eqb, List, [], ◌∷◌, ◌++◌, length, reverse, take, set, get_or, append_assoc, refl, ap, sym, ◌∙◌, subst, inl, inr, arith, Option, Some, None, IfSome, is_some}
-use Rattle.std.specs.List.{All, sum_by}
+use Rattle.std.specs.List.{All, AllByRecursion, sum_by}
 use Rattle.std.proofs.lemmas.Bool.{and_parts, cases_Bool, cases_eq, eq-eqb, ne_eqb, true≢false}
 use Rattle.std.proofs.lemmas.List.{get_or-set_same, get_or-set_other, length-set, reverse-append}
 use Rattle.std.proofs.lemmas.List.Sums.{sum_by-cons, sum_by-set, get_or-le-sum_by}
@@ -28,13 +28,14 @@ use Rattle.history.proofs.Follows.{begun_collecting, follows_begin, follows_fini
 use Rattle.master.specs.Boards.{collected_as, with_board}
 use Rattle.master.specs.Finish.{ended_at, finish_events}
 use Rattle.master.specs.Gives.{AllGiven, AreTwo, CanGive, CanTake, GivesOne, GivesSlot, IsCut, cut_for, finished, ready_in, running_in}
+use Rattle.master.specs.Content.{HasContent, IsValue}
 use Rattle.master.specs.Kind.{Slotted, is_ended, is_running, is_waiting, scan_of}
 use Rattle.master.specs.Kind as kind
-use Rattle.master.specs.Ledger.{Fits, HasAsks, IsKept, IsSlotOf, Ledger, Tools, at, need, needs, no_slot, scans, unended}
+use Rattle.master.specs.Ledger.{AreFed, Fits, HasAsks, IsKept, IsSlotOf, Ledger, Tools, at, need, needs, no_slot, scans, unended}
 use Rattle.master.specs.Meaning.{Meaning, run_of}
-use Rattle.master.proofs.Gave.{Unbegun, ended_stays, given_asks, given_begun, given_calm, given_ended, given_need, given_runs, given_same, running_not_ended, to_cut, to_given, unbegun_of}
+use Rattle.master.proofs.Gave.{Unbegun, ended_stays, given_asks, given_begun, given_calm, given_content, given_ended, given_need, given_runs, given_same, running_not_ended, to_cut, to_given, unbegun_of}
 use Rattle.master.proofs.Kept.{looked, within_run}
-use Rattle.master.proofs.Loads.{AreSlots, decided, decision_in_order, goes_on_at, loads_fit, part_fits, running_are, takes}
+use Rattle.master.proofs.Loads.{AreSlots, decided, decision_in_order, fed_later, goes_on_at, loads_fit, part_fed, part_fits, running_are, takes}
 use Rattle.master.proofs.Needs.{needs_set}
 use Rattle.master.proofs.Nexts.{begun_at, of_same, runs_is}
 
@@ -85,8 +86,10 @@ pub record AreBase (m : Meaning) (o : ℕ → Option ℕ) (fin : ℕ → Bool) (
   pub small : length slots ≤ 1000
   pub size : length slots ≡ length (run_of m).fragments
   pub each : (f : ℕ) → f < length slots → IsBase (run_of m) o fin f (at slots f)
+  pub content : (f : ℕ) → f < length slots → HasContent m f (at slots f)
   pub unbegun : (f : ℕ) → f < length slots → Unbegun (at slots f)
   pub calm : (f : ℕ) → f < length slots → IsDue (scans slots f) → ⊥
+  pub fed : (f : ℕ) → f < length slots → is_running (at slots f) ≡ true → AreFed slots (at slots f).inputs
   pub asks : (f : ℕ) → f < length slots → HasAsks (length slots) k (at slots f)
   pub fewer : k ≤ t.finishes
   pub more : (f : ℕ) → f < length slots → is_running (at slots f) ≡ true → k + 1 ≤ t.finishes
@@ -110,6 +113,13 @@ pub record IsDecided (mach : Machine) (slots : List Slotted) (d : Decision) : Ty
   pub value : d ≡ decision mach (running_in slots) (ready_in slots)
   pub sensible : IsSensible mach (running_in slots) (ready_in slots) d
   pub goes_on : All (λ load. HasPart d load.fragment) (running_in slots)
+
+given_fed : (m : Meaning) (f : ℕ) (slots slots' : List Slotted) (d : Decision) (divide : Option Event) → AreOrdered (run_of m) → length slots ≡ length (run_of m).fragments → (at slots f).inputs ≡ (outline (run_of m) f).inputs → AllGiven slots d divide slots' → f < length slots
+    → AreFed slots (at slots f).inputs → AreFed slots' (at slots f).inputs
+given_fed m f slots slots' d divide ordered size inputs given' lt fed =
+    fed_later (λ i. is_ended (at slots i)) (λ i. is_ended (at slots' i)) f (at slots f).inputs
+    (λ g l e. given_ended (given d g) (cut_for divide g) (at slots g) (at slots' g) (given'.each g (omega arith)) ∙ e)
+    (subst (λ xs. AllByRecursion (λ g. g < f) xs) (sym inputs) (ordered f (omega arith)).0) fed
 
 pub kept_given : (m : Meaning) (o : ℕ → Option ℕ) (fin : ℕ → Bool) (k : ℕ) (later h before : List Event) (slots slots' : List Slotted) (t : Tools) (mach : Machine) (divide : Option Event)
     → AreBase m o fin k slots t → IsGiving m o fin later h t → AreSlots (run_of m) before slots → IsDecided mach slots t.decision → AllGiven slots t.decision divide slots' → Follows (run_of m) h (scans slots') → IsKept m later slots' t
@@ -137,6 +147,7 @@ kept_given m o fin k later h before slots slots' t mach divide base giving are i
             };
         follows = now;
         whole = whole_of (run_of m) (reverse later) (scans slots') now (λ f lt. calms f (let e = base.size in omega arith));
+        content = λ f lt. let l = below f lt in given_content m f (given t.decision f) (cut_for divide f) (at slots f) (at slots' f) (base.content f l) (given'.each f l);
       };
       within = base.within;
       ordered = base.ordered;
@@ -152,6 +163,18 @@ kept_given m o fin k later h before slots slots' t mach divide base giving are i
             | inl r ↦ goes_on_at (run_of m) before slots t.decision f are is.goes_on l r
             | inr n ↦ given_named t.decision f n.0 n.1
           ];
+      fed = λ f lt e.
+          let l = below f lt in
+          let g = given'.each f l in
+          let same = (given_same (given t.decision f) (cut_for divide f) (at slots f) (at slots' f) g).inputs in
+          let was : AreFed slots (at slots f).inputs = elim (given_runs (given t.decision f) (cut_for divide f) (at slots f) (at slots' f) g e) [
+            | inl r ↦ base.fed f l r
+            | inr n ↦ elim (given_named t.decision f n.0 n.1) [
+              | inl a ↦ part_fed (run_of m) before slots mach t.decision.first f are base.fed is.sensible.first a
+              | inr b ↦ part_fed (run_of m) before slots mach t.decision.second f are base.fed is.sensible.second b
+            ]
+          ] in
+          subst (λ xs. AreFed slots' xs) (sym same) (given_fed m f slots slots' t.decision divide base.ordered base.size (base.each f l).inputs given' l was);
       in_order = decision_in_order (run_of m) before slots mach t.decision are is.sensible;
       counted = (
           let c = base.counted in
@@ -401,10 +424,26 @@ giving_finish m log later slots t g v d (Some x) t' k decision' count items cut 
       finishes_as = count ∙ ap (λ q. q + 1) k.finished ∙ sym (ap finishes turned);
     }
 
-pub kept_finish : (m : Meaning) (log later : List Event) (slots slots' : List Slotted) (t : Tools) (g n needed spare running ready : ℕ) (v : Table) (mach : Machine) (d : Decision) (divide : Option Event) → IsEnding m log slots t g → n ≡ t.finishes + 1
+ended_fed : (m : Meaning) (log : List Event) (slots : List Slotted) (t : Tools) (g : ℕ) (v : Table) → IsEnding m log slots t g → (f : ℕ) → f < length (ended_at slots g v) → is_running (at (ended_at slots g v) f) ≡ true → AreFed (ended_at slots g v) (at (ended_at slots g v) f).inputs
+ended_fed m log slots t g v n f lt e =
+    let still = still_running slots g f v n.inside e in
+    let l : f < length slots = omega (arith, length-set slots g (finished (at slots g) v)) in
+    let k = n.kept in
+    subst (λ (s : Slotted). AreFed (ended_at slots g v) s.inputs) (sym (ended_other slots g f v still.0))
+    (fed_later (λ i. is_ended (at slots i)) (λ i. is_ended (at (ended_at slots g v) i)) f (at slots f).inputs
+    (λ q b w. elim (cases_eq q g) [
+      | inl i ↦ ap (λ x. is_ended (at (ended_at slots g v) x)) i ∙ ap is_ended (ended_here slots g v n.inside)
+      | inr ne ↦ ap is_ended (ended_other slots g q v ne) ∙ w
+    ])
+    (subst (λ xs. AllByRecursion (λ q. q < f) xs) (sym (k.fits.each f l).inputs) (k.ordered f (within_run m log slots t f k l)).0) (k.fed f l still.1))
+
+ended_content : (m : Meaning) (g : ℕ) (s : Slotted) (v : Table) → IsValue m g v → HasContent m g s → HasContent m g (finished s v)
+ended_content m g s v fits h = record { size = h.size; outputs = h.outputs; value = λ w e. subst (IsValue m g) (let same : v ≡ w = cc in same) fits }
+
+pub kept_finish : (m : Meaning) (log later : List Event) (slots slots' : List Slotted) (t : Tools) (g n needed spare running ready : ℕ) (v : Table) (mach : Machine) (d : Decision) (divide : Option Event) → IsEnding m log slots t g → IsValue m g v → n ≡ t.finishes + 1
     → mach ≡ machine_at t.machine t.steps n → IsDecided mach (ended_at slots g v) d → AllGiven (ended_at slots g v) d divide slots' → later ≡ log ++ finish_events g d divide → t.needed ≤ needed + 2 → needed ≤ spare
     → t.running ≤ running → t.ready ≤ ready → IsKept m later slots' (record t { decision = d; finishes = n; needed = needed; spare = spare; running = running; ready = ready })
-kept_finish m log later slots slots' t g n needed spare running ready v mach d divide ending count machine is given' items change room lists readies =
+kept_finish m log later slots slots' t g n needed spare running ready v mach d divide ending fits_value count machine is given' items change room lists readies =
     let k = ending.kept in
     let t' : Tools = record t { decision = d; finishes = n; needed = needed; spare = spare; running = running; ready = ready } in
     let slots1 = ended_at slots g v in
@@ -423,8 +462,10 @@ kept_finish m log later slots slots' t g n needed spare running ready v mach d d
       small = (let s = k.small in omega arith);
       size = size ∙ k.fits.size;
       each = ended_base m log slots t g v d ending;
+      content = ended_each (HasContent m) slots g v ending.inside (ended_content m g (at slots g) v fits_value (k.fits.content g ending.inside)) (λ f l ne. k.fits.content f l);
       unbegun = ended_unbegun m log slots t g v ending;
       calm = ended_each (λ f s. IsDue (scan_of s) → ⊥) slots g v ending.inside (k.calm g ending.inside) (λ f l ne. k.calm f l);
+      fed = ended_fed m log slots t g v ending;
       asks = subst (λ q. (f : ℕ) → f < length slots1 → HasAsks q t.finishes (at slots1 f)) (sym size) (ended_each (λ f s. HasAsks (length slots) t.finishes s) slots g v ending.inside (let a = k.asks g ending.inside in omega arith) (λ f l ne. k.asks f l));
       fewer = (let c = count in omega arith);
       more = λ f lt e. (let c = count in omega arith);

@@ -12,7 +12,9 @@ use Rattle.history.specs.Boards.{BoardIs, GivenTo, rule_by, rule_of}
 use Rattle.history.specs.Outline.{Run, outline}
 use Rattle.history.specs.Projected.{earlier_of}
 use Rattle.master.specs.Gives.{Asks, Begins, GivesIn, GivesOne, GivesSlot, IsUnbegun, given_moves}
-use Rattle.master.specs.Kind.{Slotted, Stage, ended_in, is_ended, is_running, is_waiting, runs_in, scan_of, waits_in}
+use Rattle.master.specs.Content.{HasContent, HasOutputs}
+use Rattle.master.specs.Meaning.{Meaning}
+use Rattle.master.specs.Kind.{Slotted, Stage, ended_in, is_ended, is_running, is_waiting, runs_in, scan_of, value_in, waits_in}
 use Rattle.master.specs.Kind as kind
 use Rattle.master.specs.Ledger.{HasAsks, need, outs_below}
 use Rattle.master.proofs.Needs.{is_rule, outs_divide}
@@ -25,15 +27,16 @@ pub record IsSame (s s' : Slotted) : Type 0 where
   pub kind : s'.by_entries ≡ s.by_entries
   pub inputs : s'.inputs ≡ s.inputs
   pub load : s'.load ≡ s.load
+  pub outputs : s'.board.outputs ≡ s.board.outputs
 
 pub given_same : (n cut : Option ℕ) (s s' : Slotted) → GivesSlot n cut s s' → IsSame s s'
-given_same None cut s s' g = record { kind = ap (λ (x : Slotted). x.by_entries) g.1; inputs = ap (λ (x : Slotted). x.inputs) g.1; load = ap (λ (x : Slotted). x.load) g.1 }
+given_same None cut s s' g = record { kind = ap (λ (x : Slotted). x.by_entries) g.1; inputs = ap (λ (x : Slotted). x.inputs) g.1; load = ap (λ (x : Slotted). x.load) g.1; outputs = ap (λ (x : Slotted). x.board.outputs) g.1 }
 given_same (Some k) cut s s' g = go s.stage g
   where
     go : (st : Stage) → GivesIn st s k cut s' → IsSame s s'
-    go kind.waiting g = record { kind = ap (λ (x : Slotted). x.by_entries) g.1.rest; inputs = ap (λ (x : Slotted). x.inputs) g.1.rest; load = ap (λ (x : Slotted). x.load) g.1.rest }
-    go kind.runs g = record { kind = ap (λ (x : Slotted). x.by_entries) g.rest; inputs = ap (λ (x : Slotted). x.inputs) g.rest; load = ap (λ (x : Slotted). x.load) g.rest }
-    go (kind.ended v) g = record { kind = ap (λ (x : Slotted). x.by_entries) g.1; inputs = ap (λ (x : Slotted). x.inputs) g.1; load = ap (λ (x : Slotted). x.load) g.1 }
+    go kind.waiting g = record { kind = ap (λ (x : Slotted). x.by_entries) g.1.rest; inputs = ap (λ (x : Slotted). x.inputs) g.1.rest; load = ap (λ (x : Slotted). x.load) g.1.rest; outputs = ap (λ (x : Slotted). x.board.outputs) g.1.rest }
+    go kind.runs g = record { kind = ap (λ (x : Slotted). x.by_entries) g.rest; inputs = ap (λ (x : Slotted). x.inputs) g.rest; load = ap (λ (x : Slotted). x.load) g.rest; outputs = ap (λ (x : Slotted). x.board.outputs) g.rest }
+    go (kind.ended v) g = record { kind = ap (λ (x : Slotted). x.by_entries) g.1; inputs = ap (λ (x : Slotted). x.inputs) g.1; load = ap (λ (x : Slotted). x.load) g.1; outputs = ap (λ (x : Slotted). x.board.outputs) g.1 }
 
 -- ---- how far it is
 -- one that waits begins where a degree is given; nothing else changes
@@ -76,6 +79,22 @@ runs_stage : (st : Stage) (n : Option ℕ) → runs_in (stage_given st n) ≡ tr
 unfolding stage_given
 runs_stage st None e = inl e
 runs_stage st (Some k) e = inr (k, refl)
+
+value_stage : (st : Stage) (n : Option ℕ) → value_in (stage_given st n) ≡ value_in st
+unfolding stage_given
+value_stage st None = refl
+value_stage kind.waiting (Some k) = refl
+value_stage kind.runs (Some k) = refl
+value_stage (kind.ended v) (Some k) = refl
+
+pub given_content : (m : Meaning) (f : ℕ) (n cut : Option ℕ) (s s' : Slotted) → HasContent m f s → GivesSlot n cut s s' → HasContent m f s'
+given_content m f n cut s s' h g =
+    let same = (given_same n cut s s' g).outputs in
+    record {
+      size = ap length same ∙ h.size;
+      outputs = subst (HasOutputs m f) (sym same) h.outputs;
+      value = λ v e. h.value v (sym (ap value_in (stage_is n cut s s' s.stage refl g) ∙ value_stage s.stage n) ∙ e);
+    }
 
 pub given_begun : (n cut o : Option ℕ) (s s' : Slotted) → is_some o ≡ not (is_waiting s) → GivesSlot n cut s s' → is_some (earlier_of o n) ≡ not (is_waiting s')
 given_begun n cut o s s' e g = begun_stage s.stage o n e ∙ sym (ap (λ st. not (waits_in st)) (stage_is n cut s s' s.stage refl g))

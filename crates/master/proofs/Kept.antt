@@ -1,5 +1,6 @@
 -- What one board does keeps a control as it must be.
-use Rattle.std.proofs.Common.{◌≡◌, ◌≢◌, ℕ, zero, suc, ◌+◌, ◌-◌, ◌*◌, ◌<◌, ◌≤◌, Bool, not, List, [], ◌∷◌, ◌++◌, length, reverse, get_or, set, refl, ap, sym, ◌∙◌, subst, inl, inr, arith, true, false, cond, is_some, Option, Some, None, unwrap_or}
+use Rattle.std.proofs.Common.{◌≡◌, ◌≢◌, ℕ, zero, suc, ◌+◌, ◌-◌, ◌*◌, ◌<◌, ◌≤◌, Bool, not, ◌&&◌, List, [], ◌∷◌, ◌++◌, length, reverse, get_or, set, refl, ap, sym, ◌∙◌, subst, inl, inr, arith, true, false, cond, is_some, Option, Some, None, unwrap_or}
+use Rattle.std.specs.List.{list_all}
 use Rattle.std.proofs.lemmas.Bool.{cases_eq}
 use Rattle.std.proofs.lemmas.List.{get_or_default, reverse-append, get_or-set_same, get_or-set_other, length-set, set-get_or}
 use Rattle.std.proofs.lemmas.List.Sums.{sum_by-set, get_or-le-sum_by}
@@ -26,8 +27,10 @@ use Rattle.history.proofs.Follows.{follows_leave, follows_settle, follows_cut, f
 use Rattle.master.specs.Kind.{Slotted, is_ended, is_running, is_waiting, scan_of}
 use Rattle.master.specs.Boards.{with_board, collected_as}
 use Rattle.master.specs.Calls.{moved, settle_events}
+use Rattle.master.specs.Content.{AreOuts, HasContent}
 use Rattle.master.specs.Meaning.{Meaning, run_of}
-use Rattle.master.specs.Ledger.{Ledger, IsSlotOf, Fits, HasAsks, IsKept, Tools, at, need, needs, no_slot, outs_below, scans, unended}
+use Rattle.master.specs.Ledger.{AreFed, Ledger, IsSlotOf, Fits, HasAsks, IsKept, Tools, at, need, needs, no_slot, outs_below, scans, unended}
+use Rattle.master.proofs.Contents.{content_put, content_same}
 use Rattle.master.proofs.Needs.{held_less, held_more, inside_held, is_rule, needs_set, none_back, outs-given_back, outs_claim, outs_divide}
 
 abbrev Outputs : Type 0
@@ -52,6 +55,21 @@ set_all P slots g s lt all here f l =
 pub looked : (slots : List Slotted) (g : ℕ) (s : Slotted) → g < length slots → s ≡ get_or slots g s → s ≡ at slots g
 looked slots g s lt is = is ∙ get_or_default slots g s no_slot lt
 
+-- where as many are finished, as many lists of them are
+same_tests : (t u : ℕ → Bool) → ((i : ℕ) → t i ≡ u i) → (xs : List ℕ) → list_all t xs ≡ list_all u xs
+same_tests t u same [] = refl
+same_tests t u same (x ∷ xs) = ap (λ b. b && list_all t xs) (same x) ∙ ap (λ b. u x && b) (same_tests t u same xs)
+
+ended_set : (slots : List Slotted) (g i : ℕ) (s : Slotted) → g < length slots → is_ended s ≡ is_ended (at slots g) → is_ended (at slots i) ≡ is_ended (at (set slots g s) i)
+ended_set slots g i s lt same =
+    elim (cases_eq i g) [
+      | inl e ↦ ap (λ q. is_ended (at slots q)) e ∙ sym same ∙ sym (ap is_ended (get_or-set_same slots g s no_slot lt)) ∙ ap (λ q. is_ended (at (set slots g s) q)) (sym e)
+      | inr ne ↦ sym (ap is_ended (get_or-set_other slots g i s no_slot ne))
+    ]
+
+pub fed_set : (slots : List Slotted) (g : ℕ) (s : Slotted) (xs : List ℕ) → g < length slots → is_ended s ≡ is_ended (at slots g) → AreFed slots xs → AreFed (set slots g s) xs
+fed_set slots g s xs lt same fed = sym (same_tests (λ i. is_ended (at slots i)) (λ i. is_ended (at (set slots g s) i)) (λ i. ended_set slots g i s lt same) xs) ∙ fed
+
 -- events that begin and finish no fragment
 pub record IsLocal (h later : List Event) : Type 0 where
   pub begun_as : (f : ℕ) → begun later f ≡ begun h f
@@ -60,11 +78,11 @@ pub record IsLocal (h later : List Event) : Type 0 where
   pub some : later ≢ []
 
 -- the board of one fragment changed, by events that begin and finish none
-pub kept_board : (m : Meaning) (log later : List Event) (h : List Event) (slots : List Slotted) (t : Tools) (g needed spare : ℕ) (z : Running) (o : Outputs) → IsKept m log slots t → g < length slots
+pub kept_board : (m : Meaning) (log later : List Event) (h : List Event) (slots : List Slotted) (t : Tools) (g needed spare : ℕ) (z : Running) (o : Outputs) → IsKept m log slots t → g < length slots → HasContent m g (with_board (at slots g) z o)
     → reverse later ≡ h → IsLocal (reverse log) h → (IsDue z → ⊥) → HasAsks (length slots) t.finishes (with_board (at slots g) z o) → Follows (run_of m) h (scans (set slots g (with_board (at slots g) z o)))
     → need (with_board (at slots g) z o) + t.needed ≤ need (at slots g) + needed → needed ≤ spare
     → IsKept m later (set slots g (with_board (at slots g) z o)) (record t { needed = needed; spare = spare })
-kept_board m log later h slots t g needed spare z o k lt is local calm asks follows change room =
+kept_board m log later h slots t g needed spare z o k lt content is local calm asks follows change room =
     let s = with_board (at slots g) z o in
     let size = length-set slots g s in
     let of : (f : ℕ) → f < length slots → IsSlotOf (run_of m) (reverse later) f (at slots f) = λ f l. record {
@@ -85,6 +103,7 @@ kept_board m log later h slots t g needed spare z o k lt is local calm asks foll
         each = each;
         follows = now;
         whole = whole_of (run_of m) (reverse later) (scans (set slots g s)) now (λ f l. calms f (omega (arith, size, k.fits.size)));
+        content = set_all (HasContent m) slots g s lt k.fits.content content;
       };
       within = k.within;
       ordered = k.ordered;
@@ -92,6 +111,7 @@ kept_board m log later h slots t g needed spare z o k lt is local calm asks foll
       calm = calms;
       asks = subst (λ n. (f : ℕ) → f < length (set slots g s) → HasAsks n t.finishes (at (set slots g s) f)) (sym size) (set_all (λ f x. HasAsks (length slots) t.finishes x) slots g s lt k.asks asks);
       named = set_all (λ f x. is_running x ≡ true → HasPart t.decision f) slots g s lt k.named (k.named g lt);
+      fed = set_all (λ f x. is_running x ≡ true → AreFed (set slots g s) x.inputs) slots g s lt (λ f l r. fed_set slots g s (at slots f).inputs lt refl (k.fed f l r)) (λ r. fed_set slots g s (at slots g).inputs lt refl (k.fed g lt r));
       in_order = k.in_order;
       counted = omega (arith, needs_set slots g s lt, k.counted, change);
       kept = room;
@@ -141,7 +161,7 @@ kept_leave m log slots t g role needed spare z k lt held made change room =
     let made' = by_run m log slots t g 64 (move.Leave role ∷ []) z k lt made in
     let calm : IsDue z → ⊥ = λ due. k.calm g lt (subst IsDue made.1 due) in
     let less = held_less (scans slots g) role (inside_held (scans slots g) role held) held in
-    kept_board m log (log ++ event.Leave g role ∷ []) (event.Leave g role ∷ reverse log) slots t g needed spare z (at slots g).board.outputs k lt (reverse-append log (event.Leave g role ∷ []))
+    kept_board m log (log ++ event.Leave g role ∷ []) (event.Leave g role ∷ reverse log) slots t g needed spare z (at slots g).board.outputs k lt (content_same m g (at slots g) _ (k.fits.content g lt)) (reverse-append log (event.Leave g role ∷ []))
     (record { begun_as = λ f. refl; finished_as = λ f. refl; finishes_as = refl; some = λ e. absurd (cc) }) calm
     (subst (λ (x : Running). HasAsks (length slots) t.finishes (with_board (at slots g) x (at slots g).board.outputs)) (sym made.1) (k.asks g lt))
     (follows_leave run (reverse log) (scans slots) (scans (set slots g s)) g began.0 role z k.fits.follows (λ f l ne. none_due m log slots t k f l) in_run began.1 made' (changed_set slots g s lt))
@@ -158,7 +178,7 @@ kept_uncollect m log slots t g needed spare k lt collecting change room =
     let began = begun_collecting run g (begun (reverse log) g) (moves_of (reverse log) g) (scans slots g) (k.fits.follows.each g in_run) collecting in
     let made : Makes (rule_of run g) run.machine.batch (scans slots g) (move.Uncollect ∷ []) z = (((k.calm g lt, collecting), tt), refl) in
     let less = ap (λ (b : Bool). cond {A = ℕ} b 1 0) collecting in
-    kept_board m log (log ++ event.Uncollect g ∷ []) (event.Uncollect g ∷ reverse log) slots t g needed spare z (at slots g).board.outputs k lt (reverse-append log (event.Uncollect g ∷ []))
+    kept_board m log (log ++ event.Uncollect g ∷ []) (event.Uncollect g ∷ reverse log) slots t g needed spare z (at slots g).board.outputs k lt (content_same m g (at slots g) _ (k.fits.content g lt)) (reverse-append log (event.Uncollect g ∷ []))
     (record { begun_as = λ f. refl; finished_as = λ f. refl; finishes_as = refl; some = λ e. absurd (cc) }) (k.calm g lt) (k.asks g lt)
     (follows_uncollect run (reverse log) (scans slots) (scans (set slots g s)) g began.0 z k.fits.follows (none_due m log slots t k) in_run began.1 made (changed_set slots g s lt))
     (omega arith) room
@@ -178,7 +198,7 @@ kept_claim m log slots t g role most needed spare ps z k lt is made change room 
     let low = k.within.machine.some_batch in
     let more = outs_claim most role (scans slots g) ps (omega arith) may in
     let calm : IsDue z → ⊥ = λ due. due.0 (ap (λ (x : Running). x.asked) made.1 ∙ may.calm) in
-    kept_board m log (log ++ event.Claim g role ps ∷ []) (event.Claim g role ps ∷ reverse log) slots t g needed spare z (at slots g).board.outputs k lt (reverse-append log (event.Claim g role ps ∷ []))
+    kept_board m log (log ++ event.Claim g role ps ∷ []) (event.Claim g role ps ∷ reverse log) slots t g needed spare z (at slots g).board.outputs k lt (content_same m g (at slots g) _ (k.fits.content g lt)) (reverse-append log (event.Claim g role ps ∷ []))
     (record { begun_as = λ f. refl; finished_as = λ f. refl; finishes_as = refl; some = λ e. absurd (cc) }) calm
     (subst (λ (x : Running). HasAsks (length slots) t.finishes (with_board (at slots g) x (at slots g).board.outputs)) (sym made.1) (k.asks g lt))
     (follows_claim run (reverse log) (scans slots) (scans (set slots g s)) g began.0 role ps z k.fits.follows (none_due m log slots t k) in_run began.1 made' (changed_set slots g s lt))
@@ -194,11 +214,11 @@ fewer_asks : (b : Bool) (n w r : ℕ) (o : Option ℕ) → n + cond (is_some o) 
 fewer_asks true n w r o h = omega arith
 fewer_asks false n w r o h = h
 
-pub kept_settle : (m : Meaning) (log : List Event) (slots : List Slotted) (t : Tools) (g role count needed spare : ℕ) (answer : Settled) (z : Running) (o : Outputs) → IsKept m log slots t → g < length slots → role < 64
+pub kept_settle : (m : Meaning) (log : List Event) (slots : List Slotted) (t : Tools) (g role count needed spare : ℕ) (answer : Settled) (z : Running) (o : Outputs) → IsKept m log slots t → g < length slots → HasContent m g (with_board (at slots g) z o) → role < 64
     → 0 < length (out_of (scans slots g).scan.marks role)
     → Makes (rule_by (at slots g).by_entries) 64 (scans slots g) (settle_moves (scans slots g).asked role count answer) z → SettleAnswer (scans slots g) z answer → t.needed ≤ needed + 2 → needed ≤ spare
     → IsKept m (log ++ settle_events g role count (scans slots g).asked answer) (set slots g (with_board (at slots g) z o)) (record t { needed = needed; spare = spare })
-kept_settle m log slots t g role count needed spare answer z o k lt below some made told change room = go answer made told
+kept_settle m log slots t g role count needed spare answer z o k lt content below some made told change room = go answer made told
   where
     run : Run
     run = run_of m
@@ -221,13 +241,13 @@ kept_settle m log slots t g role count needed spare answer z o k lt below some m
     go : (a : Settled) → Makes (rule_by (at slots g).by_entries) 64 (scans slots g) (settle_moves (scans slots g).asked role count a) z → SettleAnswer (scans slots g) z a
         → IsKept m (log ++ settle_events g role count (scans slots g).asked a) (set slots g (with_board (at slots g) z o)) (record t { needed = needed; spare = spare })
     go More made told =
-        kept_board m log (log ++ event.Settle g role count ∷ []) (event.Settle g role count ∷ reverse log) slots t g needed spare z o k lt (reverse-append log (event.Settle g role count ∷ []))
+        kept_board m log (log ++ event.Settle g role count ∷ []) (event.Settle g role count ∷ reverse log) slots t g needed spare z o k lt content (reverse-append log (event.Settle g role count ∷ []))
         (record { begun_as = λ f. refl; finished_as = λ f. refl; finishes_as = refl; some = λ e. absurd (cc) }) told.1
         (subst (λ (x : Running). HasAsks (length slots) t.finishes (with_board (at slots g) x o)) (sym made.1) (fewer_asks _ _ _ _ _ (k.asks g lt)))
         (follows_settle (run_of m) (reverse log) (scans slots) (scans (set slots g (with_board (at slots g) z o))) g began.0 role count z k.fits.follows (none_due m log slots t k) in_run began.1 (by_run m log slots t g 64 (move.Settle role count ∷ []) z k lt made) (changed_set slots g (with_board (at slots g) z o) lt))
         (subst (λ (x : Running). need (with_board (at slots g) x o) + t.needed ≤ need (at slots g) + needed) (sym made.1) (let l = less in omega arith)) room
     go Finished made told =
-        kept_board m log (log ++ event.Settle g role count ∷ []) (event.Settle g role count ∷ reverse log) slots t g needed spare z o k lt (reverse-append log (event.Settle g role count ∷ []))
+        kept_board m log (log ++ event.Settle g role count ∷ []) (event.Settle g role count ∷ reverse log) slots t g needed spare z o k lt content (reverse-append log (event.Settle g role count ∷ []))
         (record { begun_as = λ f. refl; finished_as = λ f. refl; finishes_as = refl; some = λ e. absurd (cc) }) (λ due. due.0 (asked_full (scans slots g) z (rule_by (at slots g).by_entries) role count made.1 told))
         (subst (λ (x : Running). HasAsks (length slots) t.finishes (with_board (at slots g) x o)) (sym made.1) (fewer_asks _ _ _ _ _ (k.asks g lt)))
         (follows_settle (run_of m) (reverse log) (scans slots) (scans (set slots g (with_board (at slots g) z o))) g began.0 role count z k.fits.follows (none_due m log slots t k) in_run began.1 (by_run m log slots t g 64 (move.Settle role count ∷ []) z k lt made) (changed_set slots g (with_board (at slots g) z o) lt))
@@ -237,7 +257,7 @@ kept_settle m log slots t g role count needed spare answer z o k lt below some m
         let one = ap (λ (x : Option ℕ). cond {A = ℕ} (is_some x) 1 0) told.0.1 in
         let asks = k.asks g lt in
         let idle = outs_divide (rule_by (at slots g).by_entries) (is_rule (at slots g).by_entries) degree (given_back role count (scans slots g).scan.marks) made.0.1.0.1 in
-        kept_board m log (log ++ event.Settle g role count ∷ event.Divide g degree c ∷ []) (event.Divide g degree c ∷ event.Settle g role count ∷ reverse log) slots t g needed spare z o k lt (reverse-append log (event.Settle g role count ∷ event.Divide g degree c ∷ []))
+        kept_board m log (log ++ event.Settle g role count ∷ event.Divide g degree c ∷ []) (event.Divide g degree c ∷ event.Settle g role count ∷ reverse log) slots t g needed spare z o k lt content (reverse-append log (event.Settle g role count ∷ event.Divide g degree c ∷ []))
         (record { begun_as = λ f. refl; finished_as = λ f. refl; finishes_as = refl; some = λ e. absurd (cc) }) (λ due. due.0 (ap (λ (x : Running). x.asked) made.1))
         (subst (λ (x : Running). HasAsks (length slots) t.finishes (with_board (at slots g) x o)) (sym made.1) (omega arith))
         (follows_cut (run_of m) (reverse log) (scans slots) (scans (set slots g (with_board (at slots g) z o))) g began.0 role count degree c z k.fits.follows (none_due m log slots t k) in_run began.1 (by_run m log slots t g 64 (move.Settle role count ∷ move.Divide degree c ∷ []) z k lt made) (changed_set slots g (with_board (at slots g) z o) lt))
@@ -291,6 +311,7 @@ kept_room m log later slots t spare k items room = subst (λ xs. IsKept m xs slo
   calm = k.calm;
   asks = k.asks;
   named = k.named;
+  fed = k.fed;
   in_order = k.in_order;
   counted = k.counted;
   kept = room;
@@ -315,18 +336,20 @@ unclaimed rule most role (claimed.Batch ps) s s' none made rest = absurd (none p
 unclaimed rule most role claimed.Hold s s' none made rest = rest ∙ ap (λ (z : Running). with_board s z s.board.outputs) made.1
 unclaimed rule most role claimed.Leave s s' none made rest = rest ∙ ap (λ (z : Running). with_board s z s.board.outputs) made.1
 
-pub call_settle : (m : Meaning) (log later : List Event) (slots : List Slotted) (t : Tools) (g role needed spare : ℕ) (outputs : List (List (List Value))) (answer : Settled) (s s' : Slotted) → IsKept m log slots t → g < length slots → role < 64
+pub call_settle : (m : Meaning) (log later : List Event) (slots : List Slotted) (t : Tools) (g role needed spare : ℕ) (outputs : List (List (List Value))) (answer : Settled) (s s' : Slotted) → IsKept m log slots t → g < length slots → AreOuts m g (out_of (scans slots g).scan.marks role) outputs → role < 64
     → 0 < length (out_of (scans slots g).scan.marks role) → s ≡ get_or slots g s
     → Makes (rule_by s.by_entries) 64 (scan_of s) (settle_moves (scan_of s).asked role (length outputs) answer) (scan_of s') → SettleAnswer (scan_of s) (scan_of s') answer
     → s' ≡ with_board s (scan_of s') (put_outputs (out_of (scan_of s).scan.marks role) outputs s.board.outputs)
     → later ≡ log ++ settle_events g role (length outputs) (scan_of s).asked answer → t.needed ≤ needed + 2 → needed ≤ spare
     → IsKept m later (set slots g s') (record t { needed = needed; spare = spare })
-call_settle m log later slots t g role needed spare outputs answer s s' k lt below some is made told rest items change room =
+call_settle m log later slots t g role needed spare outputs answer s s' k lt outs below some is made told rest items change room =
     let same = looked slots g s lt is in
     let o = put_outputs (out_of (scan_of s).scan.marks role) outputs s.board.outputs in
+    let content = subst (λ (x : Slotted). HasContent m g (with_board (at slots g) (scan_of s') (put_outputs (out_of (scan_of x).scan.marks role) outputs x.board.outputs))) (sym same)
+    (content_put m g (at slots g) (scan_of s') (out_of (scans slots g).scan.marks role) outputs outs (k.fits.content g lt)) in
     let made' = subst (λ (x : Slotted). Makes (rule_by x.by_entries) 64 (scan_of x) (settle_moves (scan_of x).asked role (length outputs) answer) (scan_of s')) same made in
     let told' = subst (λ (x : Slotted). SettleAnswer (scan_of x) (scan_of s') answer) same told in
     let there : s' ≡ with_board (at slots g) (scan_of s') o = rest ∙ ap (λ (x : Slotted). with_board x (scan_of s') o) same in
     let events : later ≡ log ++ settle_events g role (length outputs) (scans slots g).asked answer = items ∙ ap (λ (x : Slotted). log ++ settle_events g role (length outputs) (scan_of x).asked answer) same in
     subst (λ (x : Slotted). Left m later slots t g needed spare x) (sym there)
-    (subst (λ xs. Left m xs slots t g needed spare (with_board (at slots g) (scan_of s') o)) (sym events) (kept_settle m log slots t g role (length outputs) needed spare answer (scan_of s') o k lt below some made' told' change room))
+    (subst (λ xs. Left m xs slots t g needed spare (with_board (at slots g) (scan_of s') o)) (sym events) (kept_settle m log slots t g role (length outputs) needed spare answer (scan_of s') o k lt content below some made' told' change room))

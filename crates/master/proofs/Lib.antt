@@ -1,5 +1,6 @@
 pub mod Carry
 pub mod Needs
+pub mod Contents
 pub mod Kept
 pub mod Happened
 pub mod Nexts

@@ -8,7 +8,7 @@ use Rattle.rows.specs.declared.plain.Machine.{Machine}
 use Rattle.io_cpu_scheduler.specs.Degrees.{class_at}
 use Rattle.io_cpu_scheduler.specs.Decisions.{decision}
 use Rattle.io_cpu_scheduler.specs.Limits.{IsLoad, IsMachine}
-use Rattle.io_cpu_scheduler.specs.Sensible.{AreApart, HasFragment, HasPart, IsPair, IsPartOf, IsSensible}
+use Rattle.io_cpu_scheduler.specs.Sensible.{AreApart, HasFragment, HasPart, IsOf, IsPair, IsPartOf, IsSensible}
 use Rattle.io_cpu_scheduler.specs.declared.load.Decision.{Decision}
 use Rattle.io_cpu_scheduler.specs.declared.load.Load.{Load}
 use Rattle.io_cpu_scheduler.specs.declared.load.Part.{Part}
@@ -21,7 +21,7 @@ use Rattle.history.specs.declared.event.Event.{Event}
 use Rattle.master.specs.Gives.{CanGive, CanTake, is_ready, ready_in, running_in}
 use Rattle.master.specs.Kind.{Slotted, Stage, is_ended, is_running, is_waiting}
 use Rattle.master.specs.Kind as kind
-use Rattle.master.specs.Ledger.{IsSlotOf, at}
+use Rattle.master.specs.Ledger.{AreFed, IsSlotOf, at}
 
 -- the slots beside a history
 pub record AreSlots (run : Run) (h : List Event) (slots : List Slotted) : Type 0 where
@@ -138,12 +138,12 @@ goes_on_at run h slots d f are all lt e =
 
 -- a load that is listed is that of a fragment which runs, or is ready
 pub listed : (run : Run) (h : List Event) (slots : List Slotted) (l : Load) → AreSlots run h slots → Contains (running_in slots ++ ready_in slots) l
-    → (f : ℕ) × (f < length slots) × (l ≡ load_of run f) × ((is_running (at slots f) ≡ true) ⊎ (is_waiting (at slots f) ≡ true))
+    → (f : ℕ) × (f < length slots) × (l ≡ load_of run f) × ((is_running (at slots f) ≡ true) ⊎ (is_ready slots (at slots f) ≡ true))
 listed run h slots l are c = elim (Contains-append_cases (running_in slots) (ready_in slots) l c) [
   | inl a ↦ let k = among is_running slots l a in (k.0, k.1, sym k.3 ∙ (are.each k.0 k.1).load, inl k.2)
   | inr b ↦
       let k = among (is_ready slots) slots l b in
-      (k.0, k.1, sym k.3 ∙ (are.each k.0 k.1).load, inr (and_parts (is_waiting (at slots k.0)) (list_all (λ i. is_ended (at slots i)) (at slots k.0).inputs) k.2).0)
+      (k.0, k.1, sym k.3 ∙ (are.each k.0 k.1).load, inr k.2)
 ]
 
 not_ended : (st : Stage) → (kind.runs_in st ≡ true) ⊎ (kind.waits_in st ≡ true) → kind.ended_in st ≡ false
@@ -163,7 +163,7 @@ part_fits run h slots mach p are machine part =
       (let s = same in omega arith),
       part.some,
       omega arith,
-      ap (λ k. is_ended (at slots k)) same ∙ not_ended (at slots l.0).stage l.3,
+      ap (λ k. is_ended (at slots k)) same ∙ not_ended (at slots l.0).stage (elim l.3 [ inl r ↦ inl r | inr r ↦ inr (and_parts (is_waiting (at slots l.0)) (list_all (λ i. is_ended (at slots i)) (at slots l.0).inputs) r).0 ]),
     )
 
 -- two parts name two fragments, the lower one first
@@ -191,3 +191,24 @@ takes run h slots mach None are machine can part = tt
 takes run h slots mach (Some p) are machine can part =
     let fit = part_fits run h slots mach p are machine part in
     record { inside = fit.0; low = fit.1; high = fit.2; can = can p.fragment fit.0 fit.3 }
+
+-- what a decision names has all that it reads
+pub part_fed : (run : Run) (h : List Event) (slots : List Slotted) (mach : Machine) (o : Option Part) (f : ℕ) → AreSlots run h slots → ((g : ℕ) → g < length slots → is_running (at slots g) ≡ true → AreFed slots (at slots g).inputs)
+    → IfSome o (IsPartOf mach (running_in slots ++ ready_in slots)) → IsOf o f → AreFed slots (at slots f).inputs
+part_fed run h slots mach None f are fed part is = absurd is
+part_fed run h slots mach (Some p) f are fed part is =
+    let l = listed run h slots part.from.0 are part.from.1 in
+    let same : l.0 ≡ f = sym (ap (λ (x : Load). x.fragment) l.2) ∙ part.from.2 ∙ is in
+    subst (λ q. AreFed slots (at slots q).inputs) same (elim l.3 [
+      | inl r ↦ fed l.0 l.1 r
+      | inr r ↦ (and_parts (is_waiting (at slots l.0)) (list_all (λ i. is_ended (at slots i)) (at slots l.0).inputs) r).1
+    ])
+
+-- inputs that are finished stay so
+pub fed_later : (t u : ℕ → Bool) (f : ℕ) (xs : List ℕ) → ((g : ℕ) → g < f → t g ≡ true → u g ≡ true) → AllByRecursion (λ g. g < f) xs → list_all t xs ≡ true → list_all u xs ≡ true
+fed_later t u f [] more all e = refl
+fed_later t u f (x ∷ xs) more all e =
+    let both = and_parts (t x) (list_all t xs) e in
+    let here = more x all.0 both.0 in
+    let rest = fed_later t u f xs more all.1 both.1 in
+    simp (here, rest)

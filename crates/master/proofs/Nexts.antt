@@ -1,8 +1,9 @@
 -- What a control finds to do next is what its history allows.
 use Rattle.std.proofs.Common.{◌≡◌, ◌≢◌, ℕ, zero, suc, ◌+◌, ◌<◌, ◌≤◌, ◌⊎◌, ◌&&◌, not, Bool, true, false, cond, List, [], ◌∷◌, ◌++◌, length, map, reverse, set, get_or, refl, ap, sym, ◌∙◌, subst, inl, inr, arith, Option, Some, None, is_some}
-use Rattle.std.specs.List.{sum_by}
+use Rattle.std.specs.List.{list_all, sum_by}
+use Rattle.hash_join.specs.Table.{Table}
 use Rattle.std.proofs.lemmas.Bool.{and_parts, cases_Bool, true≢false}
-use Rattle.std.proofs.lemmas.List.{reverse-append}
+use Rattle.std.proofs.lemmas.List.{get_or_past, reverse-append}
 use Rattle.std.proofs.lemmas.List.Sums.{sum_by-cons}
 use Rattle.rows.specs.declared.value.Value.{Value}
 use Rattle.adjust_protocol.specs.Full.{Kept}
@@ -24,10 +25,11 @@ use Rattle.master.specs.Answers.{AllFinished, IsCollect, IsJob, IsRest}
 use Rattle.master.specs.Boards.{Collects, CollectsKept, HasSeat, collected_as, waits, with_board}
 use Rattle.master.specs.Calls.{moved}
 use Rattle.master.specs.Firsts.{FirstHas, PartHas, Waits}
-use Rattle.master.specs.Kind.{Slotted, Stage, ended, is_ended, is_running, is_waiting, runs_in, scan_of, waiting}
+use Rattle.master.specs.Kind.{Slotted, Stage, ended, is_ended, is_running, is_waiting, runs_in, scan_of, value_in, waiting}
 use Rattle.master.specs.Kind as kind
-use Rattle.master.specs.Ledger.{IsKept, Ledger, Tools, at, no_slot, scans, unended}
+use Rattle.master.specs.Ledger.{AreFed, IsKept, Ledger, Tools, at, no_slot, scans, unended}
 use Rattle.master.specs.Meaning.{Meaning, run_of}
+use Rattle.master.proofs.Contents.{content_parts, content_same}
 use Rattle.master.proofs.Kept.{as_moved, by_run, changed_set, kept_board, looked, within_run}
 use Rattle.master.proofs.Needs.{held_more}
 
@@ -219,7 +221,7 @@ kept_collect m log later slots t backend g needed spare s s' k low is rest items
     let there : s' ≡ new = rest ∙ ap (λ (x : Slotted). with_board x (collected_as true (scan_of x)) x.board.outputs) same in
     let less = ap (λ (b : Bool). cond {A = ℕ} b 1 0) alone in
     subst (λ (x : Slotted). IsKept m later (set slots g x) (record t { needed = needed; spare = spare })) (sym there)
-    (kept_board m log later (event.Collect backend g ∷ reverse log) slots t g needed spare z (at slots g).board.outputs k lt (ap reverse items ∙ reverse-append log (event.Collect backend g ∷ []))
+    (kept_board m log later (event.Collect backend g ∷ reverse log) slots t g needed spare z (at slots g).board.outputs k lt (content_same m g (at slots g) z (k.fits.content g lt)) (ap reverse items ∙ reverse-append log (event.Collect backend g ∷ []))
     (record { begun_as = λ f. refl; finished_as = λ f. refl; finishes_as = refl; some = λ e. absurd (cc) }) (k.calm g lt) (k.asks g lt)
     (follows_collect (run_of m) (reverse log) (scans slots) (scans (set slots g new)) backend g d.0 z k.fits.follows k.fits.whole low d.1 (by_run m log slots t g (run_of m).machine.batch (move.Collect ∷ []) z k lt made) (changed_set slots g new lt))
     (omega arith) room)
@@ -235,13 +237,13 @@ kept_seat m log later slots t backend g role needed spare s s' k none low is mad
     let d = begun_at m log slots t g k lt seat.running in
     let more = held_more (scans slots g) role in
     subst (λ (x : Slotted). IsKept m later (set slots g x) (record t { needed = needed; spare = spare })) (sym step.0)
-    (kept_board m log later (event.Seat backend g role ∷ reverse log) slots t g needed spare (scan_of new) (at slots g).board.outputs k lt (ap reverse items ∙ reverse-append log (event.Seat backend g role ∷ []))
+    (kept_board m log later (event.Seat backend g role ∷ reverse log) slots t g needed spare (scan_of new) (at slots g).board.outputs k lt (content_same m g (at slots g) (scan_of new) (k.fits.content g lt)) (ap reverse items ∙ reverse-append log (event.Seat backend g role ∷ []))
     (record { begun_as = λ f. refl; finished_as = λ f. refl; finishes_as = refl; some = λ e. absurd (cc) }) (k.calm g lt) (k.asks g lt)
     (follows_seat (run_of m) (reverse log) (scans slots) (scans (set slots g new)) backend g d.0 role (scan_of new) k.fits.follows k.fits.whole none low d.1 (by_run m log slots t g 64 (move.Seat role ∷ []) (scan_of new) k lt step.1) (changed_set slots g new lt))
     (omega arith) room)
 
 -- ---- what is found at the board that is looked up
-lowest_in : (Has : ℕ → Type 0) (m : Meaning) (log : List Event) (slots : List Slotted) (t : Tools) (g : ℕ) → IsKept m log slots t → IsLowest (run_of m) Has g → g < length slots
+pub lowest_in : (Has : ℕ → Type 0) (m : Meaning) (log : List Event) (slots : List Slotted) (t : Tools) (g : ℕ) → IsKept m log slots t → IsLowest (run_of m) Has g → g < length slots
 lowest_in Has m log slots t g k low = let a = low.0 in let e = k.fits.size in omega arith
 
 pub seat_few : (m : Meaning) (log : List Event) (slots : List Slotted) (t : Tools) (g : ℕ) (s : Slotted) → IsKept m log slots t → IsLowest (run_of m) (MaySeat (run_of m) (reverse log)) g → s ≡ get_or slots g s → holders (scan_of s) < wanted (scan_of s)
@@ -279,23 +281,51 @@ collects_none s s' None none told = told.board.1
 collects_none s s' (Some parts) none told = absurd (none parts refl)
 
 -- ---- what the calls answer
-pub is_job : (m : Meaning) (log : List Event) (slots : List Slotted) (t : Tools) (l new : Ledger) (g role : ℕ) (s s' : Slotted) → IsKept m log slots t → record { log = log; slots = slots } ≡ l → IsLowest (run_of m) (MaySeat (run_of m) (reverse log)) g → s ≡ get_or slots g s
-    → Makes (rule_by s.by_entries) 64 (scan_of s) (move.Seat role ∷ []) (scan_of s') → s' ≡ with_board s (scan_of s') s.board.outputs → new.slots ≡ set slots g s' → IsJob l new g role
-is_job m log slots t l new g role s s' k view low is made rest now =
+pub is_job : (m : Meaning) (log : List Event) (slots : List Slotted) (t : Tools) (l new : Ledger) (g role : ℕ) (found : List Table) (s s' : Slotted) → IsKept m log slots t → record { log = log; slots = slots } ≡ l → IsLowest (run_of m) (MaySeat (run_of m) (reverse log)) g → s ≡ get_or slots g s
+    → map Some found ≡ map (λ i. value_in (at slots i).stage) (at slots g).inputs
+    → Makes (rule_by s.by_entries) 64 (scan_of s) (move.Seat role ∷ []) (scan_of s') → s' ≡ with_board s (scan_of s') s.board.outputs → new.slots ≡ set slots g s' → IsJob l new g role found
+is_job m log slots t l new g role found s s' k view low is values made rest now =
     let lt = lowest_in (MaySeat (run_of m) (reverse log)) m log slots t g k low in
-    subst (λ (x : Ledger). IsJob x new g role) view (record {
+    subst (λ (x : Ledger). IsJob x new g role found) view (record {
       inside = lt;
       below = made.0.0.1.0;
+      inputs = values;
       slots = now ∙ ap (set slots g) (as_moved 64 (move.Seat role ∷ []) slots g s s' lt is made rest).0;
     })
 
 pub is_collect : (m : Meaning) (log : List Event) (slots : List Slotted) (t : Tools) (l new : Ledger) (g : ℕ) (parts : List (List (List Value))) (s s' : Slotted) → IsKept m log slots t → record { log = log; slots = slots } ≡ l
-    → IsLowest (run_of m) (IsOpen (run_of m) (reverse log)) g → s ≡ get_or slots g s → s' ≡ with_board s (collected_as true (scan_of s)) s.board.outputs → map Some parts ≡ s.board.outputs → new.slots ≡ set slots g s' → IsCollect l new g parts
+    → IsLowest (run_of m) (IsOpen (run_of m) (reverse log)) g → s ≡ get_or slots g s → s' ≡ with_board s (collected_as true (scan_of s)) s.board.outputs → map Some parts ≡ s.board.outputs → new.slots ≡ set slots g s' → IsCollect m l new g parts
 is_collect m log slots t l new g parts s s' k view low is rest outs now =
     let lt = lowest_in (IsOpen (run_of m) (reverse log)) m log slots t g k low in
     let same = looked slots g s lt is in
-    subst (λ (x : Ledger). IsCollect x new g parts) view (record {
+    subst (λ (x : Ledger). IsCollect m x new g parts) view (record {
       inside = lt;
       slots = now ∙ ap (set slots g) (rest ∙ ap (λ (x : Slotted). with_board x (collected_as true (scan_of x)) x.board.outputs) same);
-      parts = outs ∙ ap (λ (x : Slotted). x.board.outputs) same;
+      outputs = outs ∙ ap (λ (x : Slotted). x.board.outputs) same;
+      parts = content_parts m g (at slots g) parts (k.fits.content g lt) (outs ∙ ap (λ (x : Slotted). x.board.outputs) same);
     })
+
+-- what is seated has all that it reads
+pub seat_fed : (m : Meaning) (log : List Event) (slots xs : List Slotted) (t : Tools) (g : ℕ) (s : Slotted) → IsKept m log slots t → IsLowest (run_of m) (MaySeat (run_of m) (reverse log)) g → s ≡ get_or slots g s → xs ≡ slots → AreFed xs s.inputs
+seat_fed m log slots xs t g s k low is same =
+    let lt = lowest_in (MaySeat (run_of m) (reverse log)) m log slots t g k low in
+    subst (λ ys. AreFed ys s.inputs) (sym same) (subst (λ (x : Slotted). AreFed slots x.inputs) (sym (looked slots g s lt is)) (k.fed g lt (from_seat m log slots t g k lt low.1).running))
+
+-- one of several that are finished
+pub fed_at : (slots : List Slotted) (xs : List ℕ) (k x : ℕ) → k < length xs → x ≡ get_or xs k x → AreFed slots xs → is_ended (at slots x) ≡ true
+fed_at slots [] k x lt is fed = absurd (omega arith)
+fed_at slots (y ∷ ys) zero x lt is fed = ap (λ q. is_ended (at slots q)) is ∙ (and_parts (is_ended (at slots y)) (list_all (λ i. is_ended (at slots i)) ys) fed).0
+fed_at slots (y ∷ ys) (suc k) x lt is fed = fed_at slots ys k x (omega arith) is (and_parts (is_ended (at slots y)) (list_all (λ i. is_ended (at slots i)) ys) fed).1
+
+-- a number past all fragments is that of none
+pub ended_inside : (slots : List Slotted) (f : ℕ) → is_ended (at slots f) ≡ true → length slots ≤ f → ⊥
+ended_inside slots f e past = true≢false (sym e ∙ ap is_ended (get_or_past slots f no_slot past))
+
+-- what is finished has a value
+ended_value : (st : Stage) → kind.ended_in st ≡ true → value_in st ≡ None → ⊥
+ended_value kind.waiting e none = absurd (cc)
+ended_value kind.runs e none = absurd (cc)
+ended_value (kind.ended v) e none = absurd (cc)
+
+pub has_value : (s : Slotted) → is_ended s ≡ true → value_in s.stage ≡ None → ⊥
+has_value s e none = ended_value s.stage e none

@@ -1,6 +1,6 @@
 -- A control: the history of a run and its fragments.
 use Rattle.std.specs.Prelude.{ℕ, ◌<◌, ◌≤◌, ◌+◌, ◌*◌, Bool, true, false, not, List, [], ◌≡◌, ◌≢◌, length, reverse, slice_index_or, Option, Some, None, is_some, if◌then◌else◌, nat_lt}
-use Rattle.std.specs.List.{sum_by}
+use Rattle.std.specs.List.{list_all, sum_by}
 use Rattle.std.proofs.Common.{zero, suc}
 use Rattle.rows.specs.declared.plain.Machine.{Machine}
 use Rattle.rows.specs.declared.plain.Step.{Step}
@@ -17,6 +17,7 @@ use Rattle.history.specs.Outline.{IsWithin, Run, outline}
 use Rattle.history.specs.Projected.{begun, is_finished}
 use Rattle.history.specs.Running.{AreOrdered}
 use Rattle.history.specs.State.{finishes, load_of}
+use Rattle.master.specs.Content.{HasContent}
 use Rattle.master.specs.Kind.{Slotted, is_ended, is_running, is_waiting, scan_of, waiting}
 use Rattle.master.specs.Meaning.{Meaning, run_of}
 
@@ -54,13 +55,14 @@ pub record IsSlotOf (run : Run) (h : List Event) (f : ℕ) (s : Slotted) : Type 
   pub has_ended : is_finished h f ≡ is_ended s
 
 -- the control of a run of this name: its history isn't empty, is legal and leaves nothing due, and its boards are what the
--- history says
+-- history says. What it keeps of outputs and values is of their fragments
 pub record Fits (m : Meaning) (c : Ledger) : Type 0 where
   pub started : c.log ≢ []
   pub size : length c.slots ≡ length (run_of m).fragments
   pub each : (f : ℕ) → f < length c.slots → IsSlotOf (run_of m) (reverse c.log) f (at c.slots f)
   pub follows : Follows (run_of m) (reverse c.log) (scans c.slots)
   pub whole : IsWhole (run_of m) (reverse c.log)
+  pub content : (f : ℕ) → f < length c.slots → HasContent m f (at c.slots f)
 
 -- ---- the room that the history keeps
 -- how many of the first roles have a batch out
@@ -80,6 +82,10 @@ needs slots = sum_by need slots
 -- how many fragments aren't finished
 abbrev pub unended : List Slotted → ℕ
 unended slots = sum_by (λ (s : Slotted). if is_ended s then 0 else 1) slots
+
+-- all of these are finished
+abbrev pub AreFed : List Slotted → List ℕ → Type 0
+AreFed slots inputs = list_all (λ i. is_ended (at slots i)) inputs ≡ true
 
 -- of n fragments k are finished: a board has room for a divide at each finish to come, for the one that is pending, and for
 -- its begin
@@ -106,6 +112,7 @@ pub record IsKept (m : Meaning) (log : List Event) (slots : List Slotted) (t : T
   pub calm : (f : ℕ) → f < length slots → IsDue (scans slots f) → ⊥
   pub asks : (f : ℕ) → f < length slots → HasAsks (length slots) t.finishes (at slots f)
   pub named : (f : ℕ) → f < length slots → is_running (at slots f) ≡ true → HasPart t.decision f
+  pub fed : (f : ℕ) → f < length slots → is_running (at slots f) ≡ true → AreFed slots (at slots f).inputs
   pub in_order : (p q : Part) → t.decision.first ≡ Some p → t.decision.second ≡ Some q → p.fragment < q.fragment
   pub counted : needs slots ≤ t.needed
   pub kept : t.needed ≤ t.spare

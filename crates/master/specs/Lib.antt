@@ -1,6 +1,7 @@
 pub mod Meaning
 pub mod Kind
 pub mod Boards
+pub mod Content
 pub mod Ledger
 pub mod Calls
 pub mod Firsts

@@ -1,5 +1,5 @@
 -- What a run is told at its start.
-use Rattle.std.specs.Prelude.{List, Option, map}
+use Rattle.std.specs.Prelude.{List, [], Option, None, map}
 use Rattle.rows.specs.declared.plain.Machine.{Machine}
 use Rattle.rows.specs.declared.plain.Step.{Step}
 use Rattle.plan_tree.specs.declared.fragment.Fragment.{Fragment}
@@ -29,3 +29,7 @@ outline_of f = record {
 -- the run of which a history speaks
 abbrev pub run_of : Meaning → Run
 run_of m = record { fragments = map outline_of m.fragments; machine = m.machine; steps = m.steps }
+
+-- a run of no fragments, for a name that says nothing
+abbrev pub no_run : Meaning
+no_run = record { fragments = []; machine = record { backends = 1; drives = 1; batch = 1 }; steps = []; image = None }

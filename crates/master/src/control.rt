@@ -3,7 +3,7 @@ ghost use Rattle.std.specs.Prelude.{◌≡◌, ℕ, ◌<◌, ◌≤◌, ◌+◌,
 ghost use Rattle.page_partition.specs.Scan.{left_of, out_of};
 
 use crate::decide::{decide, give};
-use crate::next::{Next, first_waiting, first_with_seat};
+use crate::next::{Next, first_waiting, first_with_seat, values_of};
 use crate::places::places_of;
 use crate::room::make_room;
 use crate::slot::Slot;
@@ -15,8 +15,9 @@ use io_cpu_scheduler::{Decision, Load, machine_after};
 use page_partition::Batch;
 use plan_tree::FragmentList;
 use rows::{Machine, Rows, StepList};
+use run_lock::Named;
 use std::alloc::{AllocError, Global};
-use std::marker::{Model, PhantomData};
+use std::marker::{Brand, Model, PhantomData};
 use std::sync::Arc;
 
 /// What names a run: its fragments, its machine and steps, and, where they are told, the files that it reads.
@@ -61,6 +62,28 @@ impl<K: RunName> Model for Control<K> {
     }) };
 }
 
+impl RunName for Brand {
+    ghost use Rattle.master.specs.Meaning.{no_run};
+
+    ghost meaning = { no_run };
+}
+
+impl<K: RunName> Named for Control<K> {
+    ghost use Rattle.master.specs.Ledger.{Fits};
+
+    type Name = PhantomData<K>;
+
+    type Entry = Event;
+
+    ghost fits = { λ name c. Fits K.meaning c };
+
+    ghost log = { λ c. c.log };
+
+    fn length(&self) -> u64 {
+        self.history.len() as u64
+    }
+}
+
 impl<K: RunName> Control<K> {
     ghost use Rattle.master.specs.Boards.{collected_as, with_board};
     ghost use Rattle.master.specs.Calls.{claim_events, moved_at, settle_events, settled_at};
@@ -76,6 +99,7 @@ impl<K: RunName> Control<K> {
     ghost use Rattle.plan_tree.specs.Pieces.{pieces_of};
     ghost use Rattle.plan_tree.specs.WellFormed.{AreWellFormed};
     ghost use Rattle.std.specs.List.{AllByRecursion};
+    ghost use Rattle.master.specs.Content.{AreOuts, IsValue};
     ghost use Rattle.master.specs.Kind.{scan_of};
     ghost use Rattle.master.specs.Ledger.{Fits, at, scans};
     ghost use Rattle.adjust_protocol.specs.Moves as move;
@@ -126,7 +150,8 @@ impl<K: RunName> Control<K> {
 
     /// What the backend does next. The first of these that fits is the answer: `Collect`, of the lowest
     /// fragment whose scan is done and that nobody collects; `Job`, at the lowest running fragment that has
-    /// a free role and fewer held ones than it wants, whose least free role is then held; `Stop`, where
+    /// a free role and fewer held ones than it wants, whose least free role is then held, with the
+    /// values of what it reads; `Stop`, where
     /// every fragment is finished; `Rest`. An error is want of memory, and the control is as it was.
     pub fn next_job(&mut self, alloc: Global, backend: u32) -> Result<Next, AllocError>
         ensures events { IfOk result (λ a. self.new.log ≡ self.old.log ++ next_events backend a) }
@@ -138,7 +163,7 @@ impl<K: RunName> Control<K> {
             return self.collect(alloc, backend, fragment);
         }
         if let Some(fragment) = first_with_seat(&self.slots, &self.decision) {
-            return self.seat(backend, fragment);
+            return self.seat(alloc, backend, fragment);
         }
         if self.finishes as usize == self.slots.len() {
             return Ok(Next::Stop);
@@ -166,7 +191,7 @@ impl<K: RunName> Control<K> {
     }
 
     // Seats the least free role of a fragment, the lowest at which one may be.
-    fn seat(&mut self, backend: u32, fragment: u32) -> Result<Next, AllocError>
+    fn seat(&mut self, alloc: Global, backend: u32, fragment: u32) -> Result<Next, AllocError>
         requires none { NoneOpen (run_of K.meaning) (reverse self.old.log) }
         requires lowest { IsLowest (run_of K.meaning) (MaySeat (run_of K.meaning) (reverse self.old.log)) fragment }
         ensures events { IfOk result (λ a. self.new.log ≡ self.old.log ++ next_events backend a) }
@@ -175,6 +200,8 @@ impl<K: RunName> Control<K> {
         ensures fits { Fits K.meaning self.new }
     {
         make_room(&mut self.history, self.needed)?;
+        let reads = self.slots[fragment as usize].inputs();
+        let inputs = values_of(alloc, &self.slots, reads)?;
         let slot = &mut self.slots[fragment as usize];
         let Seated::Role(role) = slot.seat() else {
             unreachable!();
@@ -185,7 +212,11 @@ impl<K: RunName> Control<K> {
             fragment,
             role,
         });
-        Ok(Next::Job { fragment, role })
+        Ok(Next::Job {
+            fragment,
+            role,
+            inputs,
+        })
     }
 
     /// Gives up a role that is held and has nothing out.
@@ -256,6 +287,7 @@ impl<K: RunName> Control<K> {
         requires role { role < 64 }
         requires some { 0 < length (out_of (scans self.old.slots fragment).scan.marks role) }
         requires count { length outputs ≤ length (out_of (scans self.old.slots fragment).scan.marks role) }
+        requires outs { AreOuts K.meaning fragment (out_of (scans self.old.slots fragment).scan.marks role) outputs }
         ensures events { self.new.log ≡ self.old.log ++ settle_events fragment role (length outputs) (scans self.old.slots fragment).asked result }
         ensures slots { self.new.slots ≡ settled_at self.old.slots fragment role outputs result }
         ensures answer { SettleAnswer (scans self.old.slots fragment) (scans self.new.slots fragment) result }
@@ -287,6 +319,7 @@ impl<K: RunName> Control<K> {
     pub fn finish(&mut self, fragment: u32, built: Arc<Built>) -> Decision
         requires fragment { fragment < length self.old.slots }
         requires collecting { (scans self.old.slots fragment).collecting ≡ true }
+        requires value { IsValue K.meaning fragment built.value }
         ensures decision { result ≡ decision_after (run_of K.meaning) (event.Finish fragment nothing ∷ reverse self.old.log) }
         ensures finishes { Finishes self.old self.new fragment built.value result }
         ensures fits { Fits K.meaning self.new }

@@ -1,16 +1,29 @@
 //! What a backend does next.
+ghost use Rattle.std.specs.Prelude.{◌≡◌, true, IfOk, Some, map};
 ghost use Rattle.master.specs.Boards.{HasSeat};
+ghost use Rattle.master.specs.Kind.{is_ended, value_in};
+ghost use Rattle.master.specs.Ledger.{AreFed, at};
 ghost use Rattle.master.specs.Firsts.{FirstHas, PartHas, Waits};
 
 use crate::slot::Slot;
-use hash_join::Parts;
+use hash_join::{Built, Inputs, Parts};
 use io_cpu_scheduler::{Decision, Part};
+use lists::Sequence;
+use std::alloc::{AllocError, Global};
+use std::sync::Arc;
 
 /// What `next_job` answers.
 #[derive(Drop)]
 pub enum Next {
-    Job { fragment: u32, role: u32 },
-    Collect { fragment: u32, parts: Parts },
+    Job {
+        fragment: u32,
+        role: u32,
+        inputs: Inputs,
+    },
+    Collect {
+        fragment: u32,
+        parts: Parts,
+    },
     Rest,
     Stop,
 }
@@ -55,4 +68,30 @@ pub fn first_with_seat(slots: &[Slot], decision: &Decision) -> Option<u32>
         Some(fragment) => Some(fragment),
         None => seat_part(slots, decision.second),
     }
+}
+
+// The value of a finished fragment, shared.
+fn value_at(slots: &[Slot], fragment: u32) -> Result<Arc<Built>, AllocError>
+    requires { is_ended (at slots.now fragment) ≡ true }
+    ensures { IfOk result (λ found. Some found.value ≡ value_in (at slots.now fragment).stage) }
+{
+    let Some(slot) = slots.get(fragment as usize) else {
+        unreachable!();
+    };
+    let Some(value) = slot.share_value()? else {
+        unreachable!();
+    };
+    Ok(value)
+}
+
+/// The values of these fragments, which are all finished, shared. An error is want of memory.
+pub fn values_of(alloc: Global, slots: &[Slot], fragments: &[u32]) -> Result<Inputs, AllocError>
+    requires { AreFed slots.now fragments.now }
+    ensures { IfOk result (λ values. map Some (map (λ x. x.value) values) ≡ map (λ i. value_in (at slots.now i).stage) fragments.now) }
+{
+    let mut values = Vec::with_capacity(alloc, fragments.len())?;
+    for fragment in fragments {
+        values.push(value_at(slots, *fragment)?)?;
+    }
+    Ok(Sequence::from_vec(values))
 }

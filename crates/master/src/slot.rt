@@ -53,7 +53,8 @@ impl Model for Slot {
 }
 
 impl Slot {
-    ghost use Rattle.master.specs.Kind.{Slotted, is_ended, is_running, is_waiting};
+    ghost use Rattle.master.specs.Kind.{Slotted, is_ended, is_running, is_waiting, value_in};
+    ghost use Rattle.std.specs.Option.{option_map};
     ghost use Rattle.master.specs.Boards.{Collects, HasSeat, collected_as, with_board, waits};
     ghost use Rattle.adjust_protocol.specs.Moves as move;
     ghost use Rattle.adjust_protocol.specs.Moves.{Makes, holders, is_free, is_full, is_held, wanted};
@@ -118,6 +119,16 @@ impl Slot {
         ensures { result.now ≡ self.now.inputs }
     {
         &self.inputs
+    }
+
+    /// The fragment's value, shared, once it is finished. An error is want of memory.
+    pub fn share_value(&self) -> Result<Option<Arc<Built>>, AllocError>
+        ensures { IfOk result (λ found. option_map (λ x. x.value) found ≡ value_in self.now.stage) }
+    {
+        match &self.phase {
+            Phase::Ended(value) => Ok(Some(value.clone()?)),
+            _ => Ok(None),
+        }
     }
 
     pub fn load(&self) -> Load

@@ -106,7 +106,7 @@ invariant_of-self g c =
     let items = finish_some i.history.items c.push_reserved.new.self.items c.push_reserved-in-Some.new.self.items c.args.fragment d c.in-Some.divide c.give.result c.push_reserved.ensures.items c.push_reserved-in-Some.ensures.items c.in-Some.is in
     rw back
     (kept_finish m i.history.items c.push_reserved-in-Some.new.self.items i.slots.items c.give.new.slots _ c.args.fragment (i.finishes + 1) (i.needed - 2) (vec_capacity c.push_reserved-in-Some.new.self - vec_len c.push_reserved-in-Some.new.self) (vec_capacity c.decide-decision.new.running) (vec_capacity c.decide-decision.new.ready)
-    v mach d c.give.result ending refl c.machine_after-machine.ensures.value told given' items (omega arith) (omega (arith, c.self.invariant.kept, c.push_reserved.ensures.len, c.push_reserved.ensures.capacity, c.push_reserved-in-Some.ensures.len, c.push_reserved-in-Some.ensures.capacity)) (omega (arith, c.decide-decision.ensures.running)) (omega (arith, c.decide-decision.ensures.ready)))
+    v mach d c.give.result ending c.requires.value refl c.machine_after-machine.ensures.value told given' items (omega arith) (omega (arith, c.self.invariant.kept, c.push_reserved.ensures.len, c.push_reserved.ensures.capacity, c.push_reserved-in-Some.ensures.len, c.push_reserved-in-Some.ensures.capacity)) (omega (arith, c.decide-decision.ensures.running)) (omega (arith, c.decide-decision.ensures.ready)))
 
 pub invariant_of-self-in_default : goal.invariant_of-self-in_default
 invariant_of-self-in_default g c =
@@ -127,7 +127,7 @@ invariant_of-self-in_default g c =
     let items = finish_none i.history.items c.push_reserved.new.self.items c.args.fragment d c.give.result c.push_reserved.ensures.items (is_none c.give.result c.in_default.not-Some) in
     rw back
     (kept_finish m i.history.items c.push_reserved.new.self.items i.slots.items c.give.new.slots _ c.args.fragment (i.finishes + 1) (i.needed - 2) (vec_capacity c.push_reserved.new.self - vec_len c.push_reserved.new.self) (vec_capacity c.decide-decision.new.running) (vec_capacity c.decide-decision.new.ready)
-    v mach d c.give.result ending refl c.machine_after-machine.ensures.value told given' items (omega arith) (omega (arith, c.self.invariant.kept, c.push_reserved.ensures.len, c.push_reserved.ensures.capacity)) (omega (arith, c.decide-decision.ensures.running)) (omega (arith, c.decide-decision.ensures.ready)))
+    v mach d c.give.result ending c.requires.value refl c.machine_after-machine.ensures.value told given' items (omega arith) (omega (arith, c.self.invariant.kept, c.push_reserved.ensures.len, c.push_reserved.ensures.capacity)) (omega (arith, c.decide-decision.ensures.running)) (omega (arith, c.decide-decision.ensures.ready)))
 
 pub returns-in-Some-clause-decision : goal.returns-in-Some-clause-decision
 returns-in-Some-clause-decision g c =
