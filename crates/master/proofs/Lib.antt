@@ -1,0 +1,11 @@
+pub mod Carry
+pub mod Needs
+pub mod Contents
+pub mod Kept
+pub mod Happened
+pub mod Nexts
+pub mod Given
+pub mod Loads
+pub mod Gave
+pub mod Finishes
+pub mod Begins

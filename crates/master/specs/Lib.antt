@@ -1,0 +1,11 @@
+pub mod Meaning
+pub mod Kind
+pub mod Boards
+pub mod Content
+pub mod Ledger
+pub mod Calls
+pub mod Firsts
+pub mod Answers
+pub mod Gives
+pub mod Finish
+pub mod Starts

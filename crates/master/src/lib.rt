@@ -1,0 +1,13 @@
+//! The control of a run: its fragments with their boards, and the history of what was decided and done.
+#![tactic(auto)]
+
+mod control;
+mod decide;
+mod next;
+mod places;
+mod room;
+mod slot;
+mod start;
+
+pub use control::{Control, RunName};
+pub use next::Next;
