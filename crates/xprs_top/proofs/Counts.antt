@@ -9,7 +9,7 @@ use Rattle.heap_page.proofs.Found.{get_below, there}
 use Rattle.xp_outside.specs.declared.drive.Drive.{Ghosts}
 use Rattle.xp_outside.specs.Drives.{IsFresh}
 use Rattle.plan_tree.specs.declared.tree.Plan.{Plan}
-use Rattle.std.specs.declared.vec.Vec.{Vec}
+use Rattle.std.specs.Global.{Vec}
 use Rattle.table_store.specs.Databases.{AllFresh}
 use Rattle.table_store.proofs.Filed.{all_at}
 use Rattle.xprs_top.specs.declared.status.Status.{Status}
