@@ -1,4 +1,5 @@
 use lists::{Duplicate, Sequence};
+use rows::SortKeyList;
 use std::alloc::{AllocError, Global};
 
 /// What is taken of a group's values. No op takes account of null.
@@ -29,6 +30,16 @@ pub struct Fold {
     pub ops: FoldOpList,
     pub places: FoldPlaceList,
 }
+
+/// A statement's fold, and the sort keys of its answer, whose columns are those of the answer.
+#[derive(Debug, Drop)]
+pub struct FoldPlan {
+    pub fold: Fold,
+    pub keys: SortKeyList,
+}
+
+/// For each statement of a script its fold, if it has one.
+pub type FoldTable = Sequence<Option<FoldPlan>>;
 
 impl Duplicate for FoldOp {
     fn duplicate(&self, _alloc: Global) -> Result<FoldOp, AllocError> {

@@ -12,5 +12,5 @@ mod parts;
 mod tests;
 
 pub use closing::{Closed, close_groups};
-pub use fold::{Fold, FoldOp, FoldOpList, FoldPlace, FoldPlaceList};
+pub use fold::{Fold, FoldOp, FoldOpList, FoldPlace, FoldPlaceList, FoldPlan, FoldTable};
 pub use partials::{merge, merge_all, partial};
