@@ -1,6 +1,7 @@
 -- A fragment whose answer is folded.
 use Rattle.std.proofs.Common.{◌≡◌, ℕ, Bool, true, false, List, Option, Some, None, refl, sym, ◌∙◌}
 use Rattle.aggregate_op.specs.declared.fold.Fold.{Fold}
+use Rattle.aggregate_op.specs.declared.fold.FoldPlan.{FoldPlan}
 use Rattle.plan_tree.specs.declared.fragment.End.{End}
 use Rattle.plan_tree.specs.declared.fragment.End.TheVariants as end
 use Rattle.plan_tree.specs.declared.fragment.Fragment.{Fragment}
@@ -27,13 +28,13 @@ is_answered (end.Answer targets unique keys) h = tt
 is_answered (end.Fold targets other) h = cc
 is_answered (end.Sort keys) h = cc
 
-pub not_folded : (folds : List (Option Fold)) (f : Fragment) → is_answer f.end ≡ false → piece_of f ≡ folded folds (piece_of f)
+pub not_folded : (folds : List (Option FoldPlan)) (f : Fragment) → is_answer f.end ≡ false → piece_of f ≡ folded folds (piece_of f)
 not_folded folds f h = sym (λ i. record { statement = f.statement; pipe = (piece_of f).pipe; end = other_end (fold_at folds f.statement) f.end h i; layout = f.layout; positions = f.positions; pages = f.pages; time = f.time })
 
-pub without_fold : (folds : List (Option Fold)) (f : Fragment) → fold_at folds f.statement ≡ None → piece_of f ≡ folded folds (piece_of f)
+pub without_fold : (folds : List (Option FoldPlan)) (f : Fragment) → fold_at folds f.statement ≡ None → piece_of f ≡ folded folds (piece_of f)
 without_fold folds f h = sym (λ i. record { statement = f.statement; pipe = (piece_of f).pipe; end = folded_end (h i) (ending_of f.end); layout = f.layout; positions = f.positions; pages = f.pages; time = f.time })
 
-pub with_its_fold : (folds : List (Option Fold)) (f : Fragment) (fold : Fold) → fold_at folds f.statement ≡ Some fold → piece_of (fragment_with f fold) ≡ folded folds (piece_of f)
+pub with_its_fold : (folds : List (Option FoldPlan)) (f : Fragment) (fold : Fold) → fold_at folds f.statement ≡ Some fold → piece_of (fragment_with f fold) ≡ folded folds (piece_of f)
 with_its_fold folds f fold h =
     (λ i. record { statement = f.statement; pipe = (piece_of f).pipe; end = answer_end fold f.end i; layout = f.layout; positions = f.positions; pages = f.pages; time = f.time })
     ∙ (λ i. record { statement = f.statement; pipe = (piece_of f).pipe; end = folded_end (sym h i) (ending_of f.end); layout = f.layout; positions = f.positions; pages = f.pages; time = f.time })

@@ -24,10 +24,10 @@ use Rattle.heap_page.specs.declared.head.FileKind.TheVariants as kind
 use Rattle.plan_tree.specs.declared.tree.Method.TheVariants.{Hash, Merge}
 use Rattle.plan_tree.specs.Combining.{part_of}
 use Rattle.plan_tree.specs.Conjuncts.{conjuncts, is_within}
-use Rattle.plan_tree.specs.Pieces.{Piece, answering, building}
+use Rattle.plan_tree.specs.Pieces.{Ending, Piece, answering, building}
 use Rattle.plan_tree.specs.Trees.{Shape, one, scan, join, has, scans}
 use Rattle.plan_tree.specs.Views.{Planned}
-use Rattle.plan_tree.specs.WellFormed.{AnswersColumns, AreTests, AreTargets, AreWellFormed, HasInput, IsBelow, IsPiece, target_types, type_at}
+use Rattle.plan_tree.specs.WellFormed.{AnswersColumns, AreTests, AreTargets, AreWellFormed, HasInput, IsBelow, IsEnd, IsPiece, target_types, type_at}
 use Rattle.plan_tree.proofs.TreeRows.{Once, scans_none}
 use Rattle.plan_tree.proofs.Typing.{get_left, get_right, type_is, part_type, operands_typed, type_agrees, typed_within}
 use Rattle.seq_optimizer.specs.declared.stats.VarStats.{VarStats}
@@ -294,19 +294,29 @@ module _ (known : Known) (table : List (List VarStats)) (files : (relation : ℕ
     targets : AreTargets (tree_layout facts p.tree) p.query.targets
     targets = targets_typed facts types p.tree once columned known_has p.query.targets (recursion_from_All _ p.query.targets ready.resolved.targets)
 
-    pub statement_formed : (before : List Piece) (n : ℕ) → length before ≡ n → AreAnswers before lasts → AreFormed before (cut_query facts n p.query p.tree)
-    statement_formed before n size answers =
+    -- the fragments of a statement, the last of which has this end
+    pub statement_ends : (before : List Piece) (n : ℕ) → length before ≡ n → AreAnswers before lasts → (ending : Ending) → IsEnd (tree_layout facts p.tree) ending →
+        AreFormed before ((cut_tree facts n p.tree).before ++ closed facts p.tree (cut_tree facts n p.tree).last ending ∷ [])
+    statement_ends before n size answers ending end =
         let is = tree_formed facts types (length p.query.vars) (conjuncts p.query.test) typed few before n p.tree size once columned (made_before before answers) (may_scan known table lasts columns p files ready) ready.plan.tree.1.placed alone in
         let c = cut_tree facts n p.tree in
-        formed_append before c.before _ is.pieces
-        (piece_formed (before ++ c.before) facts.statement (tree_layout facts p.tree) c.last (answering p.query.targets p.query.unique p.query.keys) is.last (targets, recursion_from_All _ p.query.keys ready.plan.keys), tt)
+        formed_append before c.before _ is.pieces (piece_formed (before ++ c.before) facts.statement (tree_layout facts p.tree) c.last ending is.last end, tt)
+
+    pub answer_ends : IsEnd (tree_layout facts p.tree) (answering p.query.targets p.query.unique p.query.keys)
+    answer_ends = (targets, recursion_from_All _ p.query.keys ready.plan.keys)
+
+    pub statement_formed : (before : List Piece) (n : ℕ) → length before ≡ n → AreAnswers before lasts → AreFormed before (cut_query facts n p.query p.tree)
+    statement_formed before n size answers = statement_ends before n size answers (answering p.query.targets p.query.unique p.query.keys) answer_ends
 
     -- the types of the targets, in the layout of the tree
-    same_types : (ts : List Output) → AllByRecursion (λ (target : Output). IsSome (type_of target.expr types)) ts → target_types (tree_layout facts p.tree) ts ≡ map (λ (target : Output). type_of target.expr types) ts
+    pub same_types : (ts : List Output) → AllByRecursion (λ (target : Output). IsSome (type_of target.expr types)) ts → target_types (tree_layout facts p.tree) ts ≡ map (λ (target : Output). type_of target.expr types) ts
     same_types [] all = refl
     same_types (t ∷ ts) all =
         let e = sym (type_agrees (has p.tree) types (column_type (tree_layout facts p.tree)) (λ v h column. tree_type facts types p.tree once columned v h column) t.expr (typed_within (has p.tree) types known_has t.expr all.0)) in
         λ i. e i ∷ same_types ts all.1 i
+
+    pub target_types_here : target_types (tree_layout facts p.tree) p.query.targets ≡ map (λ (target : Output). type_of target.expr types) p.query.targets
+    target_types_here = same_types p.query.targets (recursion_from_All _ p.query.targets ready.resolved.targets)
 
     kept_here : (k : Kept) (place : ℕ) → AscendFrom 0 known.kept → slice_get known.kept place ≡ Some k → k.statement ≡ length lasts → target_types (tree_layout facts p.tree) p.query.targets ≡ map Some (columns_kept k)
     kept_here k place up at e =
@@ -314,26 +324,30 @@ module _ (known : Known) (table : List (List VarStats)) (files : (relation : ℕ
         let fits : FitsTargets columns p.query k = subst (λ o. IfSome o (FitsTargets columns p.query)) found ready.keeps in
         same_types p.query.targets (recursion_from_All _ p.query.targets ready.resolved.targets) ∙ fits.types
 
-    last_piece : (before : List Piece) (n number : ℕ) (P : Piece → Type 0) → length before ≡ n → number ≡ last_next known table lasts n p →
-        P (closed facts p.tree (cut_tree facts n p.tree).last (answering p.query.targets p.query.unique p.query.keys)) → HasInput (before ++ cut_query facts n p.query p.tree) number P
-    last_piece before n number P size e holds =
+    -- the last fragment of a statement, with this end, has the number that the cut says
+    pub last_piece : (before : List Piece) (n number : ℕ) (ending : Ending) (P : Piece → Type 0) → length before ≡ n → number ≡ last_next known table lasts n p →
+        P (closed facts p.tree (cut_tree facts n p.tree).last ending) →
+        HasInput (before ++ ((cut_tree facts n p.tree).before ++ closed facts p.tree (cut_tree facts n p.tree).last ending ∷ [])) number P
+    last_piece before n number ending P size e holds =
         let c = cut_tree facts n p.tree in
-        let pa = closed facts p.tree c.last (answering p.query.targets p.query.unique p.query.keys) in
+        let pa = closed facts p.tree c.last ending in
         let z : number ≡ length before + length c.before = omega (arith, e, size) in
         let y : length c.before ≡ length c.before + 0 = omega arith in (
           pa,
-          ap (slice_get (before ++ cut_query facts n p.query p.tree)) z ∙ get_right before (cut_query facts n p.query p.tree) (length c.before)
-              ∙ ap (slice_get (cut_query facts n p.query p.tree)) y ∙ get_right c.before (pa ∷ []) 0,
+          ap (slice_get (before ++ (c.before ++ pa ∷ []))) z ∙ get_right before (c.before ++ pa ∷ []) (length c.before)
+              ∙ ap (slice_get (c.before ++ pa ∷ [])) y ∙ get_right c.before (pa ∷ []) 0,
           holds,
         )
 
-    pub answers_next : (before : List Piece) (n : ℕ) → length before ≡ n → AscendFrom 0 known.kept → AreAnswers before lasts →
-        AreAnswers (before ++ cut_query facts n p.query p.tree) (lasts ++ last_next known table lasts n p ∷ [])
-    answers_next before n size up answers k place number at is =
+    -- a last fragment with this end answers what the statement keeps, if it keeps its answer
+    pub answers_ends : (before : List Piece) (n : ℕ) → length before ≡ n → AscendFrom 0 known.kept → AreAnswers before lasts → (ending : Ending) →
+        ((k : Kept) → kept_of known.kept (length lasts) ≡ Some k → ending ≡ answering p.query.targets p.query.unique p.query.keys) →
+        AreAnswers (before ++ ((cut_tree facts n p.tree).before ++ closed facts p.tree (cut_tree facts n p.tree).last ending ∷ [])) (lasts ++ last_next known table lasts n p ∷ [])
+    answers_ends before n size up answers ending answered k place number at is =
         let last = last_next known table lasts n p in
         let P = λ (piece : Piece). AnswersColumns (columns_kept k) piece.layout piece.end in
         elim (cases_lt k.statement (length lasts)) [
-          | inl earlier ↦ has_more before (cut_query facts n p.query p.tree) number P (answers k place number at (sym (get_left lasts (last ∷ []) k.statement earlier) ∙ is))
+          | inl earlier ↦ has_more before ((cut_tree facts n p.tree).before ++ closed facts p.tree (cut_tree facts n p.tree).last ending ∷ []) number P (answers k place number at (sym (get_left lasts (last ∷ []) k.statement earlier) ∙ is))
           | inr later ↦
               let l = less_of (lasts ++ last ∷ []) k.statement number is in
               let m = length-append lasts (last ∷ []) in
@@ -341,8 +355,13 @@ module _ (known : Known) (table : List (List VarStats)) (files : (relation : ℕ
               let e0 : k.statement ≡ length lasts + 0 = omega (arith, e) in
               let found : Some last ≡ Some number = sym (get_right lasts (last ∷ []) 0) ∙ ap (slice_get (lasts ++ last ∷ [])) (sym e0) ∙ is in
               let same : number ≡ last = cc in
-              last_piece before n number P size same (kept_here k place up at e)
+              let end = answered k (ap (kept_of known.kept) (sym e) ∙ kept_is 0 place known.kept k up at) in
+              last_piece before n number ending P size same (subst (λ (x : Ending). AnswersColumns (columns_kept k) (tree_layout facts p.tree) x) (sym end) (kept_here k place up at e))
         ]
+
+    pub answers_next : (before : List Piece) (n : ℕ) → length before ≡ n → AscendFrom 0 known.kept → AreAnswers before lasts →
+        AreAnswers (before ++ cut_query facts n p.query p.tree) (lasts ++ last_next known table lasts n p ∷ [])
+    answers_next before n size up answers = answers_ends before n size up answers (answering p.query.targets p.query.unique p.query.keys) (λ k h. refl)
 
   script_formed : AscendFrom 0 known.kept → (ps : List Planned) (lasts : List ℕ) (columns : List (List LayoutColumn)) (n : ℕ) (before : List Piece) → length before ≡ n → AreReady known table lasts columns n ps → AreAnswers before lasts →
       AreFormed before (cut_from known table lasts n ps)

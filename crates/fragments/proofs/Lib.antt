@@ -16,3 +16,6 @@ mod StoredReads
 mod ScriptValues
 mod Examples
 mod FoldedEnds
+mod FoldedFormed
+mod FoldedValues
+mod FoldedScript

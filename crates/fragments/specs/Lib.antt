@@ -5,3 +5,4 @@ pub mod Premises
 pub mod Opened
 pub mod Laws
 pub mod Folds
+pub mod FoldedScripts

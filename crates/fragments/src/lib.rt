@@ -5,13 +5,15 @@ mod cutting;
 mod folding;
 mod joins;
 mod known;
+mod laws;
 mod layouts;
 mod scans;
 mod time;
 mod tree;
 
 pub use cutting::cut;
-pub use folding::{FoldList, with_folds};
+pub use folding::with_folds;
+pub use laws::fold_laws;
 
 /// No memory is left.
 pub type NoMemory = std::alloc::AllocError;
