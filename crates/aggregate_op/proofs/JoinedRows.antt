@@ -122,7 +122,7 @@ rest_is front rest n e = subst (λ k. drop k (front ++ rest) ≡ rest) e (whole 
 pub told_apart : (rows : List (List Value)) → length rows < many → unless_too_many rows ≡ rows
 told_apart rows h = ap (λ b. cond b rows []) (lt-ltb (length rows) many h)
 
-too_many : (rows : List (List Value)) → many ≤ length rows → unless_too_many rows ≡ []
+pub too_many : (rows : List (List Value)) → many ≤ length rows → unless_too_many rows ≡ []
 too_many rows h = ap (λ b. cond b rows []) (le-ltb (length rows) many h)
 
 -- what is known of a group behind its values

@@ -212,7 +212,7 @@ length-insert cmp x (y ∷ ys) = elim (is_gt (cmp x y)) as (λ b. length (cond b
   | false ↦ refl
 ]
 
-length-sort : {K : Type 0} (cmp : K → K → Ordering) (xs : List K) → length (sort_by cmp xs) ≡ length xs
+pub length-sort : {K : Type 0} (cmp : K → K → Ordering) (xs : List K) → length (sort_by cmp xs) ≡ length xs
 length-sort cmp [] = refl
 length-sort cmp (x ∷ xs) = length-insert cmp x (sort_by cmp xs) ∙ ap suc (length-sort cmp xs)
 

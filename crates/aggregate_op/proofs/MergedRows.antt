@@ -35,7 +35,7 @@ pub all_append : {X : Type 0} (P : X → Type 0) (xs ys : List X) → AllByRecur
 all_append P [] ys a b = b
 all_append P (x ∷ xs) ys a b = (a.0, all_append P xs ys a.1 b)
 
-all_distinct : {X : Type 0} (cmp : X → X → Ordering) (P : X → Type 0) (xs : List X) → AllByRecursion P xs → AllByRecursion P (distinct_by cmp xs)
+pub all_distinct : {X : Type 0} (cmp : X → X → Ordering) (P : X → Type 0) (xs : List X) → AllByRecursion P xs → AllByRecursion P (distinct_by cmp xs)
 all_distinct cmp P [] all = tt
 all_distinct cmp P (x ∷ xs) all = elim (list_any (λ y. is_eq (cmp x y)) xs) as (λ b. AllByRecursion P (cond b (distinct_by cmp xs) (x ∷ distinct_by cmp xs))) [
   | true ↦ all_distinct cmp P xs all.1
@@ -48,7 +48,7 @@ empty_if (x ∷ xs) h = absurd (omega (arith, h))
 
 -- ---- the order of groups
 
-abbrev group_cmp : List Value → List Value → Ordering
+abbrev pub group_cmp : List Value → List Value → Ordering
 group_cmp a b = row_cmp [] a b
 
 even_back : (r s : Ordering) → s ≡ ordering_reverse r → is_eq r ≡ is_eq s
@@ -56,7 +56,7 @@ even_back Less s e = sym (ap is_eq e)
 even_back Equal s e = sym (ap is_eq e)
 even_back Greater s e = sym (ap is_eq e)
 
-even_alike : (a b : List Value) → is_eq (group_cmp a b) ≡ is_eq (group_cmp b a)
+pub even_alike : (a b : List Value) → is_eq (group_cmp a b) ≡ is_eq (group_cmp b a)
 even_alike a b = even_back (group_cmp a b) (group_cmp b a) ((row_total []).antisymm b a)
 
 equal_if : (r : Ordering) → is_eq r ≡ true → r ≡ Equal
@@ -64,10 +64,10 @@ equal_if Less h = cc
 equal_if Equal h = refl
 equal_if Greater h = cc
 
-same_if : (a b : List Value) → is_eq (group_cmp a b) ≡ true → a ≡ b
+pub same_if : (a b : List Value) → is_eq (group_cmp a b) ≡ true → a ≡ b
 same_if a b h = row_exact [] a b (equal_if (group_cmp a b) h)
 
-less_if : (r : Ordering) → is_gt r ≡ false → is_eq r ≡ false → r ≡ Less
+pub less_if : (r : Ordering) → is_gt r ≡ false → is_eq r ≡ false → r ≡ Less
 less_if Less h k = refl
 less_if Equal h k = cc
 less_if Greater h k = cc
@@ -112,7 +112,7 @@ module _ (fold : Fold) where
     by e true = omega (arith, e)
     by e false = omega (arith, e)
 
-  groups_often : (z : List Value) (rows : List (List Value)) → occurrences group_cmp z (groups_of fold rows) ≡ min (length (members fold z rows)) 1
+  pub groups_often : (z : List Value) (rows : List (List Value)) → occurrences group_cmp z (groups_of fold rows) ≡ min (length (members fold z rows)) 1
   groups_often z rows =
       occurrences-sort (row_total []) z (distinct_by group_cmp (map (group_of fold) rows))
       ∙ occurrences-distinct (row_total []) z (map (group_of fold) rows)
@@ -218,7 +218,7 @@ module _ (fold : Fold) where
   none_if : (rows : List (List Value)) (u : List Value) → has rows u ≡ false → members fold u rows ≡ []
   none_if rows u e = let none : length (members fold u rows) ≤ 0 = ltb-false 0 (length (members fold u rows)) e in empty_if (members fold u rows) (omega (arith, none))
 
-  members-append : (a b : List (List Value)) (u : List Value) → members fold u (a ++ b) ≡ members fold u a ++ members fold u b
+  pub members-append : (a b : List (List Value)) (u : List Value) → members fold u (a ++ b) ≡ members fold u a ++ members fold u b
   members-append a b u = filter-append (is_member fold u) a b
 
   module _ (a b : List (List Value)) (stored1 : AllByRecursion (IsStoredRow fold) a) (stored2 : AllByRecursion (IsStoredRow fold) b) where

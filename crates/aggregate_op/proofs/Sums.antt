@@ -73,7 +73,7 @@ split_carried y z h k l m s t over = record { whole = omega (arith, ints, s.whol
 abbrev pub IsUpto : ℕ → ℤ → Type 0
 IsUpto n z = (up z ≤ n * 9_223_372_036_854_775_808) × (down z ≤ n * 9_223_372_036_854_775_808)
 
-integer_upto : (v : Value) → IsStored v → IsUpto 1 (integer_in v)
+pub integer_upto : (v : Value) → IsStored v → IsUpto 1 (integer_in v)
 integer_upto Null s = (omega arith, omega arith)
 integer_upto (Number (pos n)) s = (omega (arith, ints, s.sfits), omega arith)
 integer_upto (Number (negsuc n)) s = (omega arith, omega (arith, ints, s.sfits))
