@@ -1,9 +1,9 @@
 -- The partial of rows in the order of their groups, a group at a time; and what a loop over a group's rows finds.
-use Rattle.std.proofs.Common.{◌≡◌, ◌<◌, ◌≤◌, ℕ, suc, zero, ◌+◌, ◌-◌, ℤ, pos, ◌+ℤ◌, min, Bool, true, false, cond, List, [], ◌∷◌, ◌++◌, refl, sym, ap, ◌∙◌, subst, arith, length, map, filter, take, drop, get_or, append_assoc, append-nil, length-append, length-drop}
+use Rattle.std.proofs.Common.{◌≡◌, ◌<◌, ◌≤◌, ℕ, suc, zero, ◌+◌, ℤ, ◌+ℤ◌, min, Bool, true, false, cond, List, [], ◌∷◌, ◌++◌, refl, sym, ap, ◌∙◌, subst, arith, length, map, filter, take, drop, get_or, append_assoc, append-nil, length-append, length-drop}
 use Rattle.std.specs.Borrow.{Bor}
 use Rattle.std.specs.Int.{w64, saturate_signed}
 use Rattle.std.specs.List.{AllByRecursion, take-map, drop-map}
-use Rattle.std.specs.List.Sorted.{IsPermutation, IsSortedBy}
+use Rattle.std.specs.List.Sorted.{IsSortedBy}
 use Rattle.std.proofs.lemmas.Int.{ints}
 use Rattle.std.proofs.lemmas.List.{map-append, take_more, drop-drop, take-append-drop, length-map}
 use Rattle.std.proofs.lemmas.List.Elements.{filter-append}
@@ -12,11 +12,11 @@ use Rattle.std.specs.Cmp.{IsTotalOrder}
 use Rattle.std.specs.declared.cmp.Ordering.{Ordering}
 use Rattle.std.specs.declared.cmp.Ordering.TheVariants.{Less, Equal, Greater}
 use Rattle.std.specs.Ordering.{is_gt, is_eq, is_lt, ordering_reverse}
-use Rattle.lists.specs.Arranged.{Ascends, occurrences, one_if, distinct_by, sort_by}
+use Rattle.lists.specs.Arranged.{Ascends, occurrences, one_if, distinct_by}
 use Rattle.lists.proofs.Arranging.{bag_fixes, sort_ascends, ascends_from_sorted}
 use Rattle.rows.specs.declared.value.Value.{Value}
 use Rattle.rows.specs.declared.value.Value.TheVariants.{Null, Number, Word, Truth}
-use Rattle.rows.specs.Values.{column_of, row_cmp, is_null}
+use Rattle.rows.specs.Values.{column_of, is_null}
 use Rattle.rows.proofs.Orders.{row_total, row_exact}
 use Rattle.aggregate_op.specs.declared.fold.Fold.{Fold}
 use Rattle.aggregate_op.specs.declared.fold.FoldOp.{FoldOp}
@@ -24,9 +24,9 @@ use Rattle.aggregate_op.specs.declared.fold.FoldOp.TheVariants.{Count, Min, Max,
 use Rattle.aggregate_op.specs.Partials.{group_of, groups_of, is_member, members, is_no_null, integer_in, sum_of, high_part, low_part, least, greatest, part_of, parts_from, parts_of, unless_too_many, known_of, group_row, partial}
 use Rattle.aggregate_op.specs.Joined.{carried, lesser, greater, no_parts}
 use Rattle.aggregate_op.specs.Runs.{group_order, leading, seen, column_values, parts_at, sum_part, IsStoredColumn, AreStoredAt}
-use Rattle.aggregate_op.specs.Stored.{IsStored, AreStored, IsStoredRow}
+use Rattle.aggregate_op.specs.Stored.{IsStored, AreStored}
 use Rattle.aggregate_op.proofs.Lesser.{all_sort, least-append, greatest-append, no_nulls}
-use Rattle.aggregate_op.proofs.Sums.{IsUpto, integer_upto, sum_upto, carried_is, sum-append}
+use Rattle.aggregate_op.proofs.Sums.{integer_upto, sum_upto, carried_is, sum-append}
 use Rattle.aggregate_op.proofs.JoinedRows.{first_behind, many, no_parts_is, told_apart, too_many}
 use Rattle.aggregate_op.proofs.MergedRows.{all_append, all_distinct, even_alike, same_if, less_if, group_cmp, groups_often, members-append}
 

@@ -1,20 +1,13 @@
 -- The partial of rows from that of each half.
-use Rattle.std.proofs.Common.{◌≡◌, ◌<◌, ◌+◌, ℕ, zero, suc, Bool, true, false, cond, List, [], ◌∷◌, ◌++◌, refl, sym, ap, ◌∙◌, subst, arith, length, get_or, ◌≤◌, map, filter, take, drop, append_assoc, append-nil, flat_map}
-use Rattle.std.specs.List.{AllByRecursion, AllZip, take-map, drop-map}
+use Rattle.std.proofs.Common.{◌≡◌, ◌<◌, ℕ, zero, suc, List, [], ◌∷◌, ◌++◌, sym, ap, ◌∙◌, subst, arith, length, map, take, drop, append-nil}
+use Rattle.std.specs.List.{AllZip, take-map, drop-map}
 use Rattle.std.proofs.lemmas.List.{take-append-drop}
-use Rattle.std.proofs.lemmas.Cmp.{tied_itself}
 use Rattle.std.proofs.lemmas.List.Concat.{flat_map-append}
-use Rattle.std.specs.Ordering.{is_eq}
 use Rattle.rows.specs.declared.value.Value.{Value}
-use Rattle.rows.specs.declared.value.Value.TheVariants.{Null}
-use Rattle.rows.specs.Values.{column_of}
-use Rattle.rows.proofs.Orders.{row_total}
 use Rattle.aggregate_op.specs.declared.fold.Fold.{Fold}
-use Rattle.aggregate_op.specs.declared.fold.FoldOp.{FoldOp}
-use Rattle.aggregate_op.specs.Partials.{group_of, known_of, partial, part_of, parts_from, number, is_no_null, IsFoldRow}
+use Rattle.aggregate_op.specs.Partials.{partial, IsFoldRow}
 use Rattle.aggregate_op.specs.Joined.{merged}
-use Rattle.aggregate_op.specs.Stored.{IsStoredRow, AreFoldRows, IsPartialOf, ArePartialsOf, all_rows}
-use Rattle.aggregate_op.proofs.JoinedRows.{first_behind, one_more_behind}
+use Rattle.aggregate_op.specs.Stored.{IsStoredRow, IsPartialOf, ArePartialsOf, all_rows}
 use Rattle.aggregate_op.proofs.MergedRows.{all_append, partials_merged}
 
 pub of_none : (fold : Fold) (found : List (List Value)) → found ≡ [] → IsPartialOf fold [] found

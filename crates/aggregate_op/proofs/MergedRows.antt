@@ -1,19 +1,17 @@
 -- The partials of two lists of rows, merged, are the partial of the rows of both.
-use Rattle.std.proofs.Common.{◌≡◌, ◌<◌, ◌≤◌, ℕ, suc, zero, ◌+◌, min, Bool, true, false, not, cond, ◌||◌, List, [], ◌∷◌, ◌++◌, refl, sym, ap, ◌∙◌, subst, arith, length, map, filter, take, append-nil, length-append}
+use Rattle.std.proofs.Common.{◌≡◌, ◌≤◌, ℕ, suc, zero, ◌+◌, min, Bool, true, false, cond, ◌||◌, List, [], ◌∷◌, ◌++◌, refl, sym, ap, ◌∙◌, subst, arith, length, map, filter, take, append-nil, length-append}
 use Rattle.std.specs.Prelude.{nat_lt}
 use Rattle.std.specs.List.{AllByRecursion, list_any}
-use Rattle.std.proofs.lemmas.List.{map-append}
 use Rattle.std.proofs.lemmas.List.Elements.{filter-append}
-use Rattle.std.proofs.lemmas.Bool.{lt-ltb, le-ltb, ltb-true, ltb-false}
+use Rattle.std.proofs.lemmas.Bool.{lt-ltb, ltb-false}
 use Rattle.std.proofs.lemmas.Cmp.{tied_itself}
 use Rattle.std.specs.declared.cmp.Ordering.{Ordering}
 use Rattle.std.specs.declared.cmp.Ordering.TheVariants.{Less, Equal, Greater}
 use Rattle.std.specs.Ordering.{is_gt, is_eq, ordering_reverse, match_ordering}
-use Rattle.std.specs.Cmp.Lexicographic.{slice_cmp}
-use Rattle.lists.specs.Arranged.{Ascends, occurrences, one_if, distinct_by, sort_by}
+use Rattle.lists.specs.Arranged.{Ascends, occurrences, one_if, distinct_by}
 use Rattle.lists.proofs.Arranging.{sort_ascends, occurrences-sort, occurrences-distinct, bag_fixes}
 use Rattle.rows.specs.declared.value.Value.{Value}
-use Rattle.rows.specs.Values.{value_cmp, row_cmp}
+use Rattle.rows.specs.Values.{row_cmp}
 use Rattle.rows.proofs.Orders.{row_total, row_exact}
 use Rattle.aggregate_op.specs.declared.fold.Fold.{Fold}
 use Rattle.aggregate_op.specs.Partials.{group_of, groups_of, is_member, members, known_of, group_row, partial, IsFoldRow}

@@ -1,7 +1,7 @@
 -- What a fold knows and answers of rows does not depend on their order: lists with the same rows have the same partial,
 -- the same answer, and may be folded alike.
-use Rattle.std.proofs.Common.{◌≡◌, ℕ, suc, zero, ◌+◌, ◌-◌, ◌==◌, ℤ, ◌+ℤ◌, ◌++◌, min, Bool, true, false, cond, List, [], ◌∷◌, refl, sym, ap, ◌∙◌, subst, arith, length, map, filter}
-use Rattle.std.specs.Prelude.{nat_lt, Option, Some, None, if◌then◌else◌}
+use Rattle.std.proofs.Common.{◌≡◌, ℕ, ◌+◌, ◌-◌, ◌==◌, ◌+ℤ◌, ◌++◌, min, Bool, true, false, cond, List, [], ◌∷◌, refl, sym, ap, ◌∙◌, subst, arith, length, map, filter}
+use Rattle.std.specs.Prelude.{nat_lt, Some, None, if◌then◌else◌}
 use Rattle.std.specs.List.{AllByRecursion, sum_by}
 use Rattle.std.specs.List.Sorted.{IsPermutation}
 use Rattle.std.specs.Option.{option_map}
@@ -12,15 +12,15 @@ use Rattle.std.proofs.lemmas.List.Sums.{sum_by-cons}
 use Rattle.lists.specs.Arranged.{insert_by, sort_by, distinct_by, occurrences, one_if}
 use Rattle.lists.proofs.Arranging.{bag_fixes, sort_ascends, occurrences-sort, occurrences-permutation}
 use Rattle.rows.specs.declared.value.Value.{Value}
-use Rattle.rows.specs.declared.value.Value.TheVariants.{Number, Null}
+use Rattle.rows.specs.declared.value.Value.TheVariants.{Number}
 use Rattle.rows.specs.declared.order.SortKey.{SortKey}
 use Rattle.rows.specs.Values.{value_cmp, row_cmp, column_of, arranged}
 use Rattle.rows.proofs.Orders.{value_total, value_exact, row_total, row_exact}
 use Rattle.aggregate_op.specs.declared.fold.Fold.{Fold}
 use Rattle.aggregate_op.specs.declared.fold.FoldOp.{FoldOp}
 use Rattle.aggregate_op.specs.declared.fold.FoldOp.TheVariants.{Count, Min, Max, Sum}
-use Rattle.aggregate_op.specs.Partials.{group_of, groups_of, is_member, members, op_values, is_no_null, integer_in, sum_of, number, high_part, low_part, part_of, parts_from, parts_of, most_rows, unless_too_many, known_of, group_row, partial, IsFoldRow}
-use Rattle.aggregate_op.specs.FoldMeaning.{all_some, is_small, op_answer, op_answers_from, shown, group_answer, answered_groups, fold_answer, fold_meaning}
+use Rattle.aggregate_op.specs.Partials.{group_of, groups_of, is_member, members, op_values, is_no_null, integer_in, sum_of, number, high_part, low_part, part_of, parts_from, parts_of, most_rows, known_of, partial, IsFoldRow}
+use Rattle.aggregate_op.specs.FoldMeaning.{all_some, is_small, op_answer, op_answers_from, shown, group_answer, fold_answer, fold_meaning}
 use Rattle.aggregate_op.specs.Stored.{IsStoredRow, AreFoldRows, IsPartialOf}
 use Rattle.aggregate_op.proofs.Lesser.{all_sort, length-sort}
 use Rattle.aggregate_op.proofs.MergedRows.{groups_often}

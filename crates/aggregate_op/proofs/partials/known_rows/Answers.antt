@@ -1,4 +1,4 @@
-use Rattle.std.proofs.Common.{◌≡◌, ◌+◌, ◌++◌, [], ◌∷◌, ap, arith, ◌∙◌, length, map, drop}
+use Rattle.std.proofs.Common.{◌+◌, ◌++◌, ap, arith, ◌∙◌, length, map, drop}
 use Rattle.aggregate_op.specs.Partials.{partial}
 use Rattle.aggregate_op.specs.Runs.{seen}
 use Rattle.aggregate_op.specs.Stored.{IsStoredRow}

@@ -1,4 +1,4 @@
-use Rattle.std.proofs.Common.{◌≡◌, ◌∙◌, ap, map, subst}
+use Rattle.std.proofs.Common.{◌∙◌, ap, map, subst}
 use Rattle.std.specs.List.{AllByRecursion}
 use Rattle.aggregate_op.specs.Partials.{partial}
 use Rattle.aggregate_op.specs.Runs.{seen}

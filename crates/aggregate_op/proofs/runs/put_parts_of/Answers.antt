@@ -1,4 +1,4 @@
-use Rattle.std.proofs.Common.{◌≡◌, ◌<◌, ◌≤◌, ◌∙◌, ◌++◌, ap, arith, length, map}
+use Rattle.std.proofs.Common.{◌<◌, ◌≤◌, ◌∙◌, ◌++◌, ap, arith, length, map}
 use Rattle.std.proofs.lemmas.Result.{on_ok_weaker}
 use Rattle.aggregate_op.specs.Joined.{no_parts}
 use Rattle.aggregate_op.specs.Runs.{parts_at, seen}

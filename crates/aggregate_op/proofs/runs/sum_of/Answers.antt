@@ -1,6 +1,5 @@
-use Rattle.std.proofs.Common.{◌≡◌, ◌∙◌, ◌+ℤ◌, [], ◌∷◌, get_or, ap, subst}
+use Rattle.std.proofs.Common.{◌≡◌, ◌∙◌, ◌+ℤ◌, get_or, ap, subst}
 use Rattle.std.specs.Int.{w64, saturate_signed}
-use Rattle.rows.specs.declared.value.Value.TheVariants.{Number}
 use Rattle.rows.specs.Values.{column_of}
 use Rattle.aggregate_op.specs.Joined.{carried}
 use Rattle.aggregate_op.specs.Partials.{high_part, integer_in, low_part}
