@@ -1,24 +1,23 @@
 -- What is closed of the partial of rows is what the fold answers of them.
-use Rattle.std.proofs.Common.{◌≡◌, ◌<◌, ◌≤◌, ℕ, zero, suc, ◌+◌, ◌-◌, ◌*◌, ◌^◌, min, ℤ, pos, negsuc, ◌+ℤ◌, ◌*ℤ◌, Bool, true, false, cond, not, ◌&&◌, ◌||◌, Option, Some, None, option_map, List, [], ◌∷◌, ◌++◌, refl, sym, ap, ◌∙◌, subst, arith, length, map, take, drop, append_assoc, eqb-true}
+use Rattle.std.proofs.Common.{◌≡◌, ◌<◌, ◌≤◌, ℕ, suc, ◌+◌, ◌*◌, min, ℤ, pos, negsuc, ◌+ℤ◌, ◌*ℤ◌, Bool, true, false, cond, not, ◌&&◌, ◌||◌, Option, Some, None, option_map, List, [], ◌∷◌, ◌++◌, refl, sym, ap, ◌∙◌, subst, arith, length, map, take, drop, append_assoc, eqb-true}
 use Rattle.std.specs.Prelude.{int_lt, nat_lt, ◌==◌}
-use Rattle.std.specs.Ordering.{int_eq, is_eq}
-use Rattle.std.specs.List.{AllByRecursion, list_any}
+use Rattle.std.specs.List.{AllByRecursion}
 use Rattle.std.specs.Int.{w64, saturate_signed}
 use Rattle.std.proofs.lemmas.Int.{ints}
 use Rattle.std.proofs.lemmas.List.{drop-drop, get_or_at}
 use Rattle.std.proofs.lemmas.Bool.{lt-ltb, le-ltb, ltb-true, ltb-false}
-use borrow.Author.Differences.{up, down, same_in, lt-true, lt-false}
+use borrow.Author.Differences.{up, down, same_in}
 use Rattle.lists.specs.Arranged.{distinct_by, sort_by}
 use Rattle.rows.specs.declared.value.Value.{Value}
 use Rattle.rows.specs.declared.value.Value.TheVariants.{Null, Number}
-use Rattle.rows.specs.Values.{column_of, row_cmp}
+use Rattle.rows.specs.Values.{row_cmp}
 use Rattle.aggregate_op.specs.declared.fold.Fold.{Fold}
 use Rattle.aggregate_op.specs.declared.fold.FoldOp.{FoldOp}
 use Rattle.aggregate_op.specs.declared.fold.FoldOp.TheVariants.{Count, Min, Max, Sum}
-use Rattle.aggregate_op.specs.Partials.{group_of, groups_of, members, op_values, sum_of, integer_in, number, unless_too_many, IsFoldRow, high_part, low_part, least, greatest, part_of, parts_from, parts_of, most_rows, known_of, group_row, partial}
-use Rattle.aggregate_op.specs.Joined.{no_parts, part_width}
-use Rattle.aggregate_op.specs.Stored.{IsStored, AreStored, IsStoredRow, AreFoldRows, IsPartialOf}
-use Rattle.aggregate_op.specs.FoldMeaning.{all_some, is_small, op_answer, op_answers_from, shown, group_answer, answered_groups, fold_answer}
+use Rattle.aggregate_op.specs.Partials.{groups_of, members, op_values, sum_of, integer_in, number, unless_too_many, IsFoldRow, high_part, low_part, least, greatest, part_of, parts_from, parts_of, most_rows, known_of, group_row, partial}
+use Rattle.aggregate_op.specs.Joined.{part_width}
+use Rattle.aggregate_op.specs.Stored.{IsPartialOf}
+use Rattle.aggregate_op.specs.FoldMeaning.{all_some, is_small, op_answer, op_answers_from, shown, group_answer, fold_answer}
 use Rattle.aggregate_op.specs.Closing.{closed_sum, closed_part, closed_parts, closed_row, closed_groups, nothing_known}
 use Rattle.aggregate_op.proofs.Sums.{unit, bounded, rest_of, split_of, IsSplit, kept, low_is_rest}
 use Rattle.aggregate_op.proofs.JoinedRows.{many, no_parts_is, told_apart, front_is, rest_is}

@@ -1,46 +1,14 @@
 -- The partial of rows from that of each half.
-use Rattle.std.proofs.Common.{◌≡◌, ◌<◌, ◌+◌, ℕ, zero, suc, Bool, true, false, cond, List, [], ◌∷◌, ◌++◌, refl, sym, ap, ◌∙◌, subst, arith, length, get_or, ◌≤◌, map, filter, take, drop, append_assoc, append-nil, flat_map}
-use Rattle.std.specs.List.{AllByRecursion, AllZip, take-map, drop-map}
+use Rattle.std.proofs.Common.{◌≡◌, ◌<◌, ℕ, zero, suc, List, [], ◌∷◌, ◌++◌, sym, ap, ◌∙◌, subst, arith, length, map, take, drop, append-nil}
+use Rattle.std.specs.List.{AllZip, take-map, drop-map}
 use Rattle.std.proofs.lemmas.List.{take-append-drop}
-use Rattle.std.proofs.lemmas.Cmp.{tied_itself}
 use Rattle.std.proofs.lemmas.List.Concat.{flat_map-append}
-use Rattle.std.specs.Ordering.{is_eq}
 use Rattle.rows.specs.declared.value.Value.{Value}
-use Rattle.rows.specs.declared.value.Value.TheVariants.{Null}
-use Rattle.rows.specs.Values.{column_of}
-use Rattle.rows.proofs.Orders.{row_total}
 use Rattle.aggregate_op.specs.declared.fold.Fold.{Fold}
-use Rattle.aggregate_op.specs.declared.fold.FoldOp.{FoldOp}
-use Rattle.aggregate_op.specs.Partials.{group_of, known_of, partial, part_of, parts_from, number, is_no_null, IsFoldRow}
+use Rattle.aggregate_op.specs.Partials.{partial, IsFoldRow}
 use Rattle.aggregate_op.specs.Joined.{merged}
-use Rattle.aggregate_op.specs.Singles.{single_known, single_parts, without_null}
-use Rattle.aggregate_op.specs.Stored.{IsStoredRow, AreFoldRows, IsPartialOf, ArePartialsOf, all_rows}
-use Rattle.aggregate_op.proofs.JoinedRows.{first_behind, one_more_behind}
+use Rattle.aggregate_op.specs.Stored.{IsStoredRow, IsPartialOf, ArePartialsOf, all_rows}
 use Rattle.aggregate_op.proofs.MergedRows.{all_append, partials_merged}
-
--- ---- one row
-
-parts_of_one : (fold : Fold) (row : List Value) (k : ℕ) (ops : List FoldOp) → single_parts ops (drop (fold.groups + k) row) ≡ parts_from fold k ops (row ∷ [])
-parts_of_one fold row k [] = refl
-parts_of_one fold row k (op ∷ ops) =
-    ap (λ v. part_of op (without_null v) ++ single_parts ops (drop 1 (drop (fold.groups + k) row))) (first_behind row (fold.groups + k))
-    ∙ ap (λ values. part_of op (without_null (column_of row (fold.groups + k))) ++ single_parts ops values) (one_more_behind row fold.groups k)
-    ∙ ap (λ rest. part_of op (without_null (column_of row (fold.groups + k))) ++ rest) (parts_of_one fold row (k + 1) ops)
-
-known_of_one : (fold : Fold) (row : List Value) → single_known fold row ≡ known_of fold (group_of fold row) (row ∷ [])
-known_of_one fold row = ap (λ parts. group_of fold row ++ number 1 ∷ parts)
-    (ap (λ n. single_parts fold.ops (drop n row)) (let e : fold.groups ≡ fold.groups + 0 = omega arith in e) ∙ parts_of_one fold row 0 fold.ops)
-
-single_partial_is : (fold : Fold) (row : List Value) → single_known fold row ∷ [] ≡ partial fold (row ∷ [])
-single_partial_is fold row =
-    ap (λ r. r ∷ []) (known_of_one fold row)
-    ∙ ap (λ b. known_of fold (group_of fold row) (cond b (row ∷ []) []) ∷ []) (sym (ap is_eq (tied_itself (row_total []) (group_of fold row))))
-
-pub of_one : (fold : Fold) (row : List Value) (known : List Value) (found : List (List Value)) → IsFoldRow fold row → IsStoredRow fold row → known ≡ single_known fold row → found ≡ known ∷ [] → IsPartialOf fold (row ∷ []) found
-of_one fold row known found fit stored e f = record {
-  may = record { fit = (fit, tt); stored = (stored, tt) };
-  is = f ∙ ap (λ k. k ∷ []) e ∙ single_partial_is fold row;
-}
 
 pub of_none : (fold : Fold) (found : List (List Value)) → found ≡ [] → IsPartialOf fold [] found
 of_none fold found e = record { may = record { fit = tt; stored = tt }; is = e }
@@ -55,27 +23,6 @@ of_both fold a b left right found p q e = record {
   };
   is = e ∙ ap (λ l. merged fold l right) p.is ∙ ap (merged fold (partial fold a)) q.is ∙ partials_merged fold a b p.may q.may;
 }
-
-all_take : {X : Type 0} (P : X → Type 0) (n : ℕ) (xs : List X) → AllByRecursion P xs → AllByRecursion P (take n xs)
-all_take P zero xs all = tt
-all_take P (suc n) [] all = tt
-all_take P (suc n) (x ∷ xs) all = (all.0, all_take P n xs all.1)
-
-all_drop : {X : Type 0} (P : X → Type 0) (n : ℕ) (xs : List X) → AllByRecursion P xs → AllByRecursion P (drop n xs)
-all_drop P zero xs all = all
-all_drop P (suc n) [] all = tt
-all_drop P (suc n) (x ∷ xs) all = all_drop P n xs all.1
-
-pub fit_front : {X : Type 0} (P : X → Type 0) (n : ℕ) (xs front : List X) → front ≡ take n xs → AllByRecursion P xs → AllByRecursion P front
-fit_front P n xs front e all = subst (AllByRecursion P) (sym e) (all_take P n xs all)
-
-pub fit_back : {X : Type 0} (P : X → Type 0) (n : ℕ) (xs back : List X) → back ≡ drop n xs → AllByRecursion P xs → AllByRecursion P back
-fit_back P n xs back e all = subst (AllByRecursion P) (sym e) (all_drop P n xs all)
-
-pub of_halves : (fold : Fold) (n : ℕ) (rows first second left right found : List (List Value)) → first ≡ take n rows → second ≡ drop n rows
-    → IsPartialOf fold first left → IsPartialOf fold second right → found ≡ merged fold left right → IsPartialOf fold rows found
-of_halves fold n rows first second left right found e f p q g =
-    subst (λ all. IsPartialOf fold all found) (ap (λ l. l ++ second) e ∙ ap (λ r. take n rows ++ r) f ∙ take-append-drop n rows) (of_both fold first second left right found p q g)
 
 -- ---- several lists of rows
 

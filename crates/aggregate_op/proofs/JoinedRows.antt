@@ -1,5 +1,5 @@
 -- What is known of a group of some rows and of further ones, joined, is what is known of it of all of them.
-use Rattle.std.proofs.Common.{◌≡◌, ◌<◌, ◌≤◌, ℕ, suc, zero, ◌+◌, ◌^◌, min, ℤ, pos, ◌+ℤ◌, Bool, true, false, cond, List, [], ◌∷◌, ◌++◌, refl, sym, ap, ◌∙◌, subst, arith, length, map, filter, take, drop, append_assoc, length-append}
+use Rattle.std.proofs.Common.{◌≡◌, ◌<◌, ◌≤◌, ℕ, ◌+◌, min, pos, ◌+ℤ◌, Bool, true, false, cond, List, [], ◌∷◌, ◌++◌, refl, sym, ap, ◌∙◌, subst, arith, length, map, filter, take, drop, length-append}
 use Rattle.std.specs.Prelude.{int_lt, nat_lt}
 use Rattle.std.specs.List.{AllByRecursion}
 use Rattle.std.specs.Int.{w64, saturate_signed}
@@ -7,13 +7,13 @@ use Rattle.std.proofs.lemmas.List.{map-append, get_or-drop, drop-drop}
 use Rattle.std.proofs.lemmas.List.Elements.{filter-append}
 use Rattle.std.proofs.lemmas.Bool.{lt-ltb, le-ltb, ltb-true, ltb-false}
 use Rattle.rows.specs.declared.value.Value.{Value}
-use Rattle.rows.specs.declared.value.Value.TheVariants.{Null, Number, Word, Truth}
+use Rattle.rows.specs.declared.value.Value.TheVariants.{Null, Number}
 use Rattle.rows.specs.Values.{column_of}
 use Rattle.aggregate_op.specs.declared.fold.Fold.{Fold}
 use Rattle.aggregate_op.specs.declared.fold.FoldOp.{FoldOp}
 use Rattle.aggregate_op.specs.declared.fold.FoldOp.TheVariants.{Count, Min, Max, Sum}
 use Rattle.aggregate_op.specs.Partials.{op_values, is_no_null, sum_of, number, high_part, low_part, least, greatest, part_of, parts_from, parts_of, most_rows, unless_too_many, known_of}
-use Rattle.aggregate_op.specs.Joined.{joined, joined_known, joined_parts, no_parts, carried, lesser, greater}
+use Rattle.aggregate_op.specs.Joined.{joined, joined_known, joined_parts, no_parts, carried}
 use Rattle.aggregate_op.specs.Stored.{IsStored, AreStored, IsStoredRow}
 use Rattle.aggregate_op.proofs.Lesser.{no_nulls, least-append, greatest-append}
 use Rattle.aggregate_op.proofs.Sums.{sum-append, sum_upto, carried_is, kept}
@@ -122,7 +122,7 @@ rest_is front rest n e = subst (λ k. drop k (front ++ rest) ≡ rest) e (whole 
 pub told_apart : (rows : List (List Value)) → length rows < many → unless_too_many rows ≡ rows
 told_apart rows h = ap (λ b. cond b rows []) (lt-ltb (length rows) many h)
 
-too_many : (rows : List (List Value)) → many ≤ length rows → unless_too_many rows ≡ []
+pub too_many : (rows : List (List Value)) → many ≤ length rows → unless_too_many rows ≡ []
 too_many rows h = ap (λ b. cond b rows []) (le-ltb (length rows) many h)
 
 -- what is known of a group behind its values

@@ -1,11 +1,10 @@
 -- The least and the greatest of two lists' values together.
-use Rattle.std.proofs.Common.{◌≡◌, ℕ, suc, zero, ◌+◌, ◌-◌, Bool, true, false, cond, List, [], ◌∷◌, ◌++◌, refl, sym, ap, ◌∙◌, subst, arith, length, filter, map}
+use Rattle.std.proofs.Common.{◌≡◌, ℕ, suc, ◌-◌, Bool, true, false, cond, List, [], ◌∷◌, ◌++◌, refl, sym, ap, ◌∙◌, arith, length, filter}
 use Rattle.std.specs.List.{AllByRecursion}
-use Rattle.std.specs.Cmp.{IsTotalOrder}
 use Rattle.std.specs.declared.cmp.Ordering.{Ordering}
 use Rattle.std.specs.declared.cmp.Ordering.TheVariants.{Less, Equal, Greater}
 use Rattle.std.specs.Ordering.{is_gt, is_lt, ordering_reverse}
-use Rattle.std.proofs.lemmas.Cmp.{upto, tied_itself}
+use Rattle.std.proofs.lemmas.Cmp.{upto}
 use Rattle.lists.specs.Arranged.{insert_by, sort_by, Ascends}
 use Rattle.lists.proofs.Arranging.{sort_ascends}
 use Rattle.rows.specs.declared.value.Value.{Value}
@@ -212,7 +211,7 @@ length-insert cmp x (y ∷ ys) = elim (is_gt (cmp x y)) as (λ b. length (cond b
   | false ↦ refl
 ]
 
-length-sort : {K : Type 0} (cmp : K → K → Ordering) (xs : List K) → length (sort_by cmp xs) ≡ length xs
+pub length-sort : {K : Type 0} (cmp : K → K → Ordering) (xs : List K) → length (sort_by cmp xs) ≡ length xs
 length-sort cmp [] = refl
 length-sort cmp (x ∷ xs) = length-insert cmp x (sort_by cmp xs) ∙ ap suc (length-sort cmp xs)
 

@@ -6,3 +6,5 @@ pub mod MergedRows
 pub mod NextRows
 pub mod Halves
 pub mod ClosedGroups
+pub mod SameRows
+pub mod GroupRuns

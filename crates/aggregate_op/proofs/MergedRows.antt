@@ -1,19 +1,17 @@
 -- The partials of two lists of rows, merged, are the partial of the rows of both.
-use Rattle.std.proofs.Common.{◌≡◌, ◌<◌, ◌≤◌, ℕ, suc, zero, ◌+◌, min, Bool, true, false, not, cond, ◌||◌, List, [], ◌∷◌, ◌++◌, refl, sym, ap, ◌∙◌, subst, arith, length, map, filter, take, append-nil, length-append}
+use Rattle.std.proofs.Common.{◌≡◌, ◌≤◌, ℕ, suc, zero, ◌+◌, min, Bool, true, false, cond, ◌||◌, List, [], ◌∷◌, ◌++◌, refl, sym, ap, ◌∙◌, subst, arith, length, map, filter, take, append-nil, length-append}
 use Rattle.std.specs.Prelude.{nat_lt}
 use Rattle.std.specs.List.{AllByRecursion, list_any}
-use Rattle.std.proofs.lemmas.List.{map-append}
 use Rattle.std.proofs.lemmas.List.Elements.{filter-append}
-use Rattle.std.proofs.lemmas.Bool.{lt-ltb, le-ltb, ltb-true, ltb-false}
+use Rattle.std.proofs.lemmas.Bool.{lt-ltb, ltb-false}
 use Rattle.std.proofs.lemmas.Cmp.{tied_itself}
 use Rattle.std.specs.declared.cmp.Ordering.{Ordering}
 use Rattle.std.specs.declared.cmp.Ordering.TheVariants.{Less, Equal, Greater}
 use Rattle.std.specs.Ordering.{is_gt, is_eq, ordering_reverse, match_ordering}
-use Rattle.std.specs.Cmp.Lexicographic.{slice_cmp}
-use Rattle.lists.specs.Arranged.{Ascends, occurrences, one_if, distinct_by, sort_by}
+use Rattle.lists.specs.Arranged.{Ascends, occurrences, one_if, distinct_by}
 use Rattle.lists.proofs.Arranging.{sort_ascends, occurrences-sort, occurrences-distinct, bag_fixes}
 use Rattle.rows.specs.declared.value.Value.{Value}
-use Rattle.rows.specs.Values.{value_cmp, row_cmp}
+use Rattle.rows.specs.Values.{row_cmp}
 use Rattle.rows.proofs.Orders.{row_total, row_exact}
 use Rattle.aggregate_op.specs.declared.fold.Fold.{Fold}
 use Rattle.aggregate_op.specs.Partials.{group_of, groups_of, is_member, members, known_of, group_row, partial, IsFoldRow}
@@ -35,7 +33,7 @@ pub all_append : {X : Type 0} (P : X → Type 0) (xs ys : List X) → AllByRecur
 all_append P [] ys a b = b
 all_append P (x ∷ xs) ys a b = (a.0, all_append P xs ys a.1 b)
 
-all_distinct : {X : Type 0} (cmp : X → X → Ordering) (P : X → Type 0) (xs : List X) → AllByRecursion P xs → AllByRecursion P (distinct_by cmp xs)
+pub all_distinct : {X : Type 0} (cmp : X → X → Ordering) (P : X → Type 0) (xs : List X) → AllByRecursion P xs → AllByRecursion P (distinct_by cmp xs)
 all_distinct cmp P [] all = tt
 all_distinct cmp P (x ∷ xs) all = elim (list_any (λ y. is_eq (cmp x y)) xs) as (λ b. AllByRecursion P (cond b (distinct_by cmp xs) (x ∷ distinct_by cmp xs))) [
   | true ↦ all_distinct cmp P xs all.1
@@ -48,7 +46,7 @@ empty_if (x ∷ xs) h = absurd (omega (arith, h))
 
 -- ---- the order of groups
 
-abbrev group_cmp : List Value → List Value → Ordering
+abbrev pub group_cmp : List Value → List Value → Ordering
 group_cmp a b = row_cmp [] a b
 
 even_back : (r s : Ordering) → s ≡ ordering_reverse r → is_eq r ≡ is_eq s
@@ -56,7 +54,7 @@ even_back Less s e = sym (ap is_eq e)
 even_back Equal s e = sym (ap is_eq e)
 even_back Greater s e = sym (ap is_eq e)
 
-even_alike : (a b : List Value) → is_eq (group_cmp a b) ≡ is_eq (group_cmp b a)
+pub even_alike : (a b : List Value) → is_eq (group_cmp a b) ≡ is_eq (group_cmp b a)
 even_alike a b = even_back (group_cmp a b) (group_cmp b a) ((row_total []).antisymm b a)
 
 equal_if : (r : Ordering) → is_eq r ≡ true → r ≡ Equal
@@ -64,10 +62,10 @@ equal_if Less h = cc
 equal_if Equal h = refl
 equal_if Greater h = cc
 
-same_if : (a b : List Value) → is_eq (group_cmp a b) ≡ true → a ≡ b
+pub same_if : (a b : List Value) → is_eq (group_cmp a b) ≡ true → a ≡ b
 same_if a b h = row_exact [] a b (equal_if (group_cmp a b) h)
 
-less_if : (r : Ordering) → is_gt r ≡ false → is_eq r ≡ false → r ≡ Less
+pub less_if : (r : Ordering) → is_gt r ≡ false → is_eq r ≡ false → r ≡ Less
 less_if Less h k = refl
 less_if Equal h k = cc
 less_if Greater h k = cc
@@ -112,7 +110,7 @@ module _ (fold : Fold) where
     by e true = omega (arith, e)
     by e false = omega (arith, e)
 
-  groups_often : (z : List Value) (rows : List (List Value)) → occurrences group_cmp z (groups_of fold rows) ≡ min (length (members fold z rows)) 1
+  pub groups_often : (z : List Value) (rows : List (List Value)) → occurrences group_cmp z (groups_of fold rows) ≡ min (length (members fold z rows)) 1
   groups_often z rows =
       occurrences-sort (row_total []) z (distinct_by group_cmp (map (group_of fold) rows))
       ∙ occurrences-distinct (row_total []) z (map (group_of fold) rows)
@@ -218,7 +216,7 @@ module _ (fold : Fold) where
   none_if : (rows : List (List Value)) (u : List Value) → has rows u ≡ false → members fold u rows ≡ []
   none_if rows u e = let none : length (members fold u rows) ≤ 0 = ltb-false 0 (length (members fold u rows)) e in empty_if (members fold u rows) (omega (arith, none))
 
-  members-append : (a b : List (List Value)) (u : List Value) → members fold u (a ++ b) ≡ members fold u a ++ members fold u b
+  pub members-append : (a b : List (List Value)) (u : List Value) → members fold u (a ++ b) ≡ members fold u a ++ members fold u b
   members-append a b u = filter-append (is_member fold u) a b
 
   module _ (a b : List (List Value)) (stored1 : AllByRecursion (IsStoredRow fold) a) (stored2 : AllByRecursion (IsStoredRow fold) b) where

@@ -1,5 +1,5 @@
 -- The next row of two lists that are merged, where the lists stand with their first row last.
-use Rattle.std.proofs.Common.{◌≡◌, ◌+◌, ℕ, Option, Some, None, List, [], ◌∷◌, ◌++◌, refl, sym, ap, ◌∙◌, subst, arith, length, reverse}
+use Rattle.std.proofs.Common.{◌≡◌, List, [], ◌∷◌, refl, sym, ap, ◌∙◌, arith, length, reverse}
 use Rattle.std.specs.List.{IsLastAndRest}
 use Rattle.std.proofs.lemmas.List.{reverse-append}
 use Rattle.std.specs.declared.cmp.Ordering.{Ordering}
@@ -10,7 +10,7 @@ use Rattle.rows.specs.declared.value.Value.{Value}
 use Rattle.rows.specs.Values.{value_cmp}
 use Rattle.aggregate_op.specs.declared.fold.Fold.{Fold}
 use Rattle.aggregate_op.specs.Partials.{group_of}
-use Rattle.aggregate_op.specs.Joined.{joined, merged, merged_from}
+use Rattle.aggregate_op.specs.Joined.{joined, merged}
 use Rattle.aggregate_op.specs.Sides.{TakesLeft, TakesRight, TakesBoth}
 use Rattle.aggregate_op.proofs.MergedRows.{merged_nil}
 

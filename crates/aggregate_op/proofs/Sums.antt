@@ -1,8 +1,8 @@
 -- The parts of sums: how often a sum holds 2^62, and what is left.
-use Rattle.std.proofs.Common.{◌≡◌, ◌<◌, ◌≤◌, ℕ, suc, zero, ◌+◌, ◌-◌, ◌*◌, ◌/◌, ◌%◌, ◌^◌, min, ℤ, pos, negsuc, ◌+ℤ◌, ◌-ℤ◌, Bool, true, false, cond, List, [], ◌∷◌, ◌++◌, refl, sym, ap, ◌∙◌, subst, arith, length}
+use Rattle.std.proofs.Common.{◌≡◌, ◌<◌, ◌≤◌, ℕ, ◌+◌, ◌-◌, ◌*◌, ◌/◌, ◌%◌, ℤ, pos, negsuc, ◌+ℤ◌, ◌-ℤ◌, Bool, true, false, cond, List, [], ◌∷◌, ◌++◌, refl, sym, ap, ◌∙◌, arith, length}
 use Rattle.std.specs.Prelude.{int_lt}
 use Rattle.std.specs.List.{AllByRecursion}
-use Rattle.std.specs.Int.{w64, saturate_signed, int_div_euclid, int_rem_euclid}
+use Rattle.std.specs.Int.{w64, saturate_signed}
 use Rattle.std.proofs.lemmas.Int.{ints}
 use Rattle.std.proofs.Math.Nat.{div-add-mod, mod-lt}
 use Rattle.std.proofs.Math.IntN.{+ℤ_assoc}
@@ -73,7 +73,7 @@ split_carried y z h k l m s t over = record { whole = omega (arith, ints, s.whol
 abbrev pub IsUpto : ℕ → ℤ → Type 0
 IsUpto n z = (up z ≤ n * 9_223_372_036_854_775_808) × (down z ≤ n * 9_223_372_036_854_775_808)
 
-integer_upto : (v : Value) → IsStored v → IsUpto 1 (integer_in v)
+pub integer_upto : (v : Value) → IsStored v → IsUpto 1 (integer_in v)
 integer_upto Null s = (omega arith, omega arith)
 integer_upto (Number (pos n)) s = (omega (arith, ints, s.sfits), omega arith)
 integer_upto (Number (negsuc n)) s = (omega arith, omega (arith, ints, s.sfits))

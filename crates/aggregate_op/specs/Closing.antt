@@ -1,5 +1,5 @@
 -- How the rows that are known of groups are closed.
-use Rattle.std.specs.Prelude.{ℤ, pos, negsuc, ◌+◌, ◌+ℤ◌, ◌*ℤ◌, ◌^◌, ◌||◌, ◌==◌, ◌&&◌, int_lt, List, [], ◌∷◌, ◌++◌, map, take, drop, length, if◌then◌else◌, Option, Some, None}
+use Rattle.std.specs.Prelude.{ℤ, pos, negsuc, ◌+◌, ◌+ℤ◌, ◌*ℤ◌, ◌^◌, ◌||◌, ◌==◌, ◌&&◌, int_lt, List, [], ◌∷◌, map, take, drop, length, if◌then◌else◌, Option, Some, None}
 use Rattle.std.specs.Int.{w64, saturate_signed}
 use Rattle.std.specs.Option.{option_map}
 use Rattle.rows.specs.declared.value.Value.{Value}
@@ -7,7 +7,7 @@ use Rattle.rows.specs.declared.value.Value.TheVariants.{Null, Number}
 use Rattle.rows.specs.Values.{column_of}
 use Rattle.aggregate_op.specs.declared.fold.Fold.{Fold}
 use Rattle.aggregate_op.specs.declared.fold.FoldOp.{FoldOp}
-use Rattle.aggregate_op.specs.declared.fold.FoldOp.TheVariants.{Count, Min, Max, Sum}
+use Rattle.aggregate_op.specs.declared.fold.FoldOp.TheVariants.{Sum}
 use Rattle.aggregate_op.specs.declared.closing.Closed.{Closed}
 use Rattle.aggregate_op.specs.declared.closing.Closed.TheVariants as closed_as
 use Rattle.aggregate_op.specs.Partials.{integer_in, number, most_rows}

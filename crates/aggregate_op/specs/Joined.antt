@@ -4,7 +4,7 @@ use Rattle.std.specs.Int.{w64, saturate_signed}
 use Rattle.std.specs.Ordering.{is_gt, is_lt, match_ordering}
 use Rattle.std.specs.Cmp.Lexicographic.{slice_cmp}
 use Rattle.rows.specs.declared.value.Value.{Value}
-use Rattle.rows.specs.declared.value.Value.TheVariants.{Null, Number}
+use Rattle.rows.specs.declared.value.Value.TheVariants.{Number}
 use Rattle.rows.specs.Values.{value_cmp, column_of, is_null}
 use Rattle.aggregate_op.specs.declared.fold.Fold.{Fold}
 use Rattle.aggregate_op.specs.declared.fold.FoldOp.{FoldOp}

@@ -1,7 +1,7 @@
 pub mod Partials
 pub mod Joined
 pub mod Stored
-pub mod Singles
+pub mod Runs
 pub mod Sides
 pub mod FoldMeaning
 pub mod Closing

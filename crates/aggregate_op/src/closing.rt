@@ -7,7 +7,8 @@ ghost use Rattle.aggregate_op.specs.FoldMeaning.{all_some, fold_answer, shown};
 ghost use Rattle.aggregate_op.specs.Partials.{number};
 ghost use Rattle.aggregate_op.specs.Stored.{IsPartialOf};
 
-use crate::known::{MOST_ROWS, front, put_no_parts};
+use crate::groups::front;
+use crate::known::{MOST_ROWS, put_no_parts};
 use crate::parts::{SUM_UNIT, behind, copy_at, number_at, part_width};
 use crate::{Fold, FoldOp, FoldPlace};
 use rows::{Row, Rows, Value};

@@ -4,10 +4,12 @@
 
 mod closing;
 mod fold;
+mod groups;
 mod known;
 mod merging;
 mod partials;
 mod parts;
+mod runs;
 #[cfg(test)]
 mod tests;
 

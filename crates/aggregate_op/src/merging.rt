@@ -1,24 +1,14 @@
 //! Partials of two lists of rows as one.
 ghost use Rattle.std.specs.Prelude.{◌≡◌, reverse, IfOk};
-ghost use Rattle.std.specs.Cmp.Lexicographic.{slice_cmp};
-ghost use Rattle.rows.specs.Values.{value_cmp};
 ghost use Rattle.aggregate_op.specs.Joined.{merged};
-ghost use Rattle.aggregate_op.specs.Partials.{group_of};
 ghost use Rattle.aggregate_op.specs.Sides.{IsNextSide, IsTaken, TakesBoth};
 
 use crate::Fold;
-use crate::known::{front, joined_row};
+use crate::groups::group_order;
+use crate::known::joined_row;
 use rows::{Row, Value};
 use std::alloc::{AllocError, Global};
 use std::cmp::Ordering;
-
-// The order of the groups of two rows.
-fn group_order(a: &Row, b: &Row, fold: &Fold) -> Ordering
-    ensures { result ≡ slice_cmp value_cmp (group_of fold.now a.now) (group_of fold.now b.now) }
-{
-    let groups = fold.groups as usize;
-    front(a.items(), groups).cmp(front(b.items(), groups))
-}
 
 // The list whose last row comes next, or both where their last rows are of one group.
 #[derive(Clone, Copy)]

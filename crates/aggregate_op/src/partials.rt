@@ -1,40 +1,44 @@
 //! What is known of each group of some rows, and of the rows of several parts.
-ghost use Rattle.std.specs.Prelude.{◌≡◌, ◌<◌, ◌++◌, [], ◌∷◌, List, map, length, IfOk};
+ghost use Rattle.std.specs.Prelude.{◌≡◌, ◌<◌, ◌++◌, List, map, length, IfOk, OnOk};
 ghost use Rattle.std.specs.List.{AllByRecursion};
+ghost use Rattle.lists.specs.Arranged.{Ascends};
 ghost use Rattle.rows.specs.declared.value.Value.{Value};
-ghost use Rattle.aggregate_op.specs.Partials.{IsFoldRow};
-ghost use Rattle.aggregate_op.specs.Stored.{ArePartialsOf, IsPartialOf, all_rows};
+ghost use Rattle.aggregate_op.specs.Partials.{IsFoldRow, partial};
+ghost use Rattle.aggregate_op.specs.Runs.{group_order, seen};
+ghost use Rattle.aggregate_op.specs.Stored.{ArePartialsOf, IsPartialOf, IsStoredRow, all_rows};
 
 use crate::Fold;
-use crate::known::known_row;
+use crate::groups::{in_group_order, leading};
 use crate::merging::merge_rows;
+use crate::runs::known_of;
 use rows::{Row, Rows};
 use std::alloc::{AllocError, Global};
 use std::sync::Arc;
 
-// What is known of the group of one row, as a list.
-fn single_partial(alloc: Global, row: &Row, fold: &Fold) -> Result<Vec<Row>, AllocError>
-    ensures { IfOk result (λ found. IsFoldRow fold.now row.now → IsPartialOf fold.now (row.now ∷ []) found.items) }
+// What is known of each group of rows that stand in the order of their groups.
+fn known_rows(alloc: Global, rows: &[&Row], fold: &Fold) -> Result<Vec<Row>, AllocError>
+    requires { Ascends (group_order fold.now) (map seen rows.now) }
+    ensures known { IfOk result (λ found. found.items ≡ partial fold.now (map seen rows.now)) }
+    ensures stored { OnOk result (AllByRecursion (IsStoredRow fold.now) (map seen rows.now)) }
 {
-    let mut found = Vec::with_capacity(alloc, 1)?;
-    found.push(known_row(alloc, row, fold)?)?;
+    let mut found = Vec::with_capacity(alloc, rows.len())?;
+    let mut done = 0;
+    while done < rows.len() {
+        let (_, left) = rows.split_at(done);
+        let first = left[0];
+        let (run, _) = left.split_at(leading(left, first, fold));
+        found.push(known_of(alloc, first, run, fold)?)?;
+        done += run.len();
+    }
     Ok(found)
 }
 
-// The partial of rows: that of each half, merged.
+// The partial of rows, by their groups in order.
 fn partial_of(alloc: Global, rows: &[Row], fold: &Fold) -> Result<Vec<Row>, AllocError>
     ensures { IfOk result (λ found. AllByRecursion (IsFoldRow fold.now) rows.now → IsPartialOf fold.now rows.now found.items) }
 {
-    match rows {
-        [] => Ok(Vec::new(alloc)),
-        [row] => single_partial(alloc, row, fold),
-        _ => {
-            let (first, second) = rows.split_at(rows.len() / 2);
-            let left = partial_of(alloc, first, fold)?;
-            let right = partial_of(alloc, second, fold)?;
-            Ok(merge_rows(alloc, left, right, fold)?)
-        }
-    }
+    let ordered = in_group_order(alloc, rows, fold)?;
+    Ok(known_rows(alloc, ordered.as_slice(), fold)?)
 }
 
 /// What is known of each group of some rows, in ascending order of the groups, where each row has the group values and

@@ -70,7 +70,7 @@ fn first_order(left: &[Value], right: &[Value]) -> Ordering
 }
 
 // The list that begins with the lesser value, null passed over.
-fn lesser<'a>(left: &'a [Value], right: &'a [Value]) -> &'a [Value]
+pub(crate) fn lesser<'a>(left: &'a [Value], right: &'a [Value]) -> &'a [Value]
     ensures { column_of result.now 0 ≡ lesser (column_of left.now 0) (column_of right.now 0) }
 {
     if is_null_at(left, 0) {
@@ -83,7 +83,7 @@ fn lesser<'a>(left: &'a [Value], right: &'a [Value]) -> &'a [Value]
 }
 
 // The list that begins with the greater value.
-fn greater<'a>(left: &'a [Value], right: &'a [Value]) -> &'a [Value]
+pub(crate) fn greater<'a>(left: &'a [Value], right: &'a [Value]) -> &'a [Value]
     ensures { column_of result.now 0 ≡ greater (column_of left.now 0) (column_of right.now 0) }
 {
     if first_order(left, right).is_lt() {
@@ -104,7 +104,7 @@ pub(crate) fn part_width(op: FoldOp) -> usize
 }
 
 // Carries over what is left of a sum where it holds the unit once more.
-fn carried(high: i64, low: i64) -> (i64, i64)
+pub(crate) fn carried(high: i64, low: i64) -> (i64, i64)
     ensures { Number result.0 ∷ Number result.1 ∷ [] ≡ carried high low }
 {
     if low < SUM_UNIT {

@@ -16,7 +16,8 @@ use Rattle.plan_tree.specs.WellFormed.{AreProbes, AreWellFormed, IsPiece, IsSour
 use Rattle.plan_tree.proofs.InputOuts.{piped_same}
 use Rattle.plan_tree.proofs.ValueLists.{later_keep, own_value}
 
-value_same : (stored : Stored) (values : List (List (List Value))) (piece : Piece) → value_of stored (input_values values piece) (with_numbered_inputs piece) ≡ value_of stored values piece
+-- a fragment's value rests on those of its inputs
+pub value_same : (stored : Stored) (values : List (List (List Value))) (piece : Piece) → value_of stored (input_values values piece) (with_numbered_inputs piece) ≡ value_of stored values piece
 value_same stored values piece =
     let pipe = piece.pipe in
     ap (λ (rows : ℕ → List (List Value)). ended piece.end (flat_map (λ p. projected piece.end piece.layout (rows p)) (range_with_len 0 piece.positions)))

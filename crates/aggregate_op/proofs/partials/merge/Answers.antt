@@ -1,6 +1,5 @@
-use Rattle.std.proofs.Common.{◌≡◌, ◌∙◌, ap, sym, subst, rules}
+use Rattle.std.proofs.Common.{◌≡◌, rules}
 use Rattle.aggregate_op.specs.Joined.{merged}
-use Rattle.aggregate_op.specs.Stored.{IsPartialOf}
 use Rattle.aggregate_op.proofs.Halves.{of_both}
 use Rattle.aggregate_op.proofs.partials.merge.Goals as goal
 

@@ -1,5 +1,5 @@
 use Rattle.std.proofs.Common.{length}
-use Rattle.aggregate_op.proofs.known.+put_parts.Given as goal
+use Rattle.aggregate_op.proofs.runs.+put_parts.Given as goal
 
 abbrev pub decreases-put_parts : goal.decreases-put_parts
 decreases-put_parts l = length l.ops.now
