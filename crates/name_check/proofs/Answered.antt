@@ -28,7 +28,7 @@ use Rattle.name_check.proofs.Any.{length_map}
 use Rattle.name_check.proofs.Bridge.{types_agree, mapped}
 
 -- two ways to give a column's type that agree give an expression one type
-same_types : (e : Expression) (f g : ℕ → ℕ → Option LayoutColumn) → ((v c : ℕ) → f v c ≡ g v c) → type_of e f ≡ type_of e g
+pub same_types : (e : Expression) (f g : ℕ → ℕ → Option LayoutColumn) → ((v c : ℕ) → f v c ≡ g v c) → type_of e f ≡ type_of e g
 same_types (ex.number n) f g h = refl
 same_types (ex.word w) f g h = refl
 same_types (ex.truth b) f g h = refl
@@ -41,7 +41,7 @@ same_types (ex.both a b) f g h = ap (λ o. if is_truth o && is_truth (type_of b 
 same_types (ex.either a b) f g h = ap (λ o. if is_truth o && is_truth (type_of b f) then Some truth_type else None) (same_types a f g h) ∙ ap (λ o. if is_truth (type_of a g) && is_truth o then Some truth_type else None) (same_types b f g h)
 same_types (ex.is_null e negated) f g h = ap (λ o. if is_some o then Some truth_type else None) (same_types e f g h)
 
-layouts_map : (cs : List Column) → map (λ c. c.layout) (map head_column cs) ≡ map layout_column cs
+pub layouts_map : (cs : List Column) → map (λ c. c.layout) (map head_column cs) ≡ map layout_column cs
 layouts_map [] = refl
 layouts_map (c ∷ cs) = ap (λ ls. layout_column c ∷ ls) (layouts_map cs)
 
@@ -73,7 +73,7 @@ column_same catalog db vs e v c = sym (types_agree (map heading_of catalog) vs v
 as_many : (catalog : List Relation) (db : List Table) → map (λ t. t.columns) db ≡ map (λ r. r.columns) catalog → length (map heading_of catalog) ≡ length db
 as_many catalog db e = length_map heading_of catalog ∙ (sym (length_map (λ (r : Relation). r.columns) catalog) ∙ (ap length (sym e) ∙ length_map (λ (t : Table). t.columns) db))
 
-test_same : (f g : ℕ → ℕ → Option LayoutColumn) → ((v c : ℕ) → f v c ≡ g v c) → (test : Option Expression) → IfSome test (λ t. IsTrue (is_truth (type_of t f))) → IfSome test (λ t. IsTrue (is_truth (type_of t g)))
+pub test_same : (f g : ℕ → ℕ → Option LayoutColumn) → ((v c : ℕ) → f v c ≡ g v c) → (test : Option Expression) → IfSome test (λ t. IsTrue (is_truth (type_of t f))) → IfSome test (λ t. IsTrue (is_truth (type_of t g)))
 test_same f g h None t = t
 test_same f g h (Some e) t = subst (λ o. IsTrue (is_truth o)) (same_types e f g h) t
 

@@ -32,7 +32,7 @@ IsTyped hs vars t = IsSome (type_of t.expr (column_type hs vars))
 some : {A : Type 0} (o : Option A) → ((a : A) × (o ≡ Some a)) → IsSome o
 some o h = rw h.1 refl
 
-inner_free : (hs : List Heading) (limited : Bool) (vars : List Var) (before : List HeadColumn) (ws : List Wish) → wishes_fault hs limited vars before ws ≡ None → All (λ w. inner_fault hs vars w ≡ None) ws
+pub inner_free : (hs : List Heading) (limited : Bool) (vars : List Var) (before : List HeadColumn) (ws : List Wish) → wishes_fault hs limited vars before ws ≡ None → All (λ w. inner_fault hs vars w ≡ None) ws
 inner_free hs limited vars before [] e = All-nil (λ w. inner_fault hs vars w ≡ None)
 inner_free hs limited vars before (w ∷ ws) e =
     let after : List HeadColumn = before ++ map head_of (wish_shown hs vars w) in
@@ -44,7 +44,7 @@ inner_free hs limited vars before (w ∷ ws) e =
 one_typed : (hs : List Heading) (vars : List Var) (name : List ℕ) (e : Phrase) → NumbersFit e → fault_in hs vars e ≡ None → All (IsTyped hs vars) (map output_by (shown hs vars name e ∷ []))
 one_typed hs vars name e h f = All-cons (IsTyped hs vars) (record { name = name; expr = meaning_in hs vars e }) [] (some (type_in hs vars e) (typed hs vars e h f)) (All-nil (IsTyped hs vars))
 
-at_end : {A : Type 0} (xs : List A) (y : A) (ys : List A) → slice_get (xs ++ (y ∷ ys)) (length xs) ≡ Some y
+pub at_end : {A : Type 0} (xs : List A) (y : A) (ys : List A) → slice_get (xs ++ (y ∷ ys)) (length xs) ≡ Some y
 at_end [] y ys = refl
 at_end (x ∷ xs) y ys = at_end xs y ys
 
@@ -143,7 +143,7 @@ key_low head (k ∷ ks) e =
       there k None h e = cc
       there k (Some n) h e = h
 
-split_any : (a b : Bool) → (a || b) ≡ false → (a ≡ false) × (b ≡ false)
+pub split_any : (a b : Bool) → (a || b) ≡ false → (a ≡ false) × (b ≡ false)
 split_any true b e = cc
 split_any false b e = (refl, e)
 

@@ -19,8 +19,9 @@ use Rattle.name_check.specs.Types.{at}
 use Rattle.name_check.specs.Checked.{and_then, with_vars}
 use Rattle.name_check.specs.Faults.{column_named, grown, meaning_in}
 use Rattle.name_check.specs.Sentences.{var_of, vars_of, wish_names, test_names, has_fold, into_fault, range_form_fault, ranges_fault, wishes_fault, test_fault, keys_fault, sort_key, head_in, sentence_fault, question_in, kept_heading, headings_after, script_fault, questions_in, queries_of, or_fault, HasNumbers}
-use Rattle.name_check.specs.Steps.{bind, unless, result_of, Chosen, found_of, ranges_checked, wishes_checked, test_checked, key_by, keys_checked, to_end, sentence_checked, kept_by, script_checked}
-use Rattle.name_check.specs.Whole.{WishesAgree, with_wishes, TestAgrees, asked}
+use Rattle.name_check.specs.Headers.{kept_name}
+use Rattle.name_check.specs.Steps.{bind, unless, result_of, Asked, Chosen, no_columns, found_of, ranges_checked, wishes_checked, test_checked, key_by, keys_checked, to_end, sentence_checked, kept_by, script_checked}
+use Rattle.name_check.specs.Whole.{WishesAgree, with_wishes, TestAgrees, asked, asked_in}
 use Rattle.name_check.proofs.Scope.{grown_append}
 use Rattle.name_check.proofs.Wishes.{wishes_agree, test_agrees}
 
@@ -62,23 +63,23 @@ ranges_few hs vars (r ∷ rs) few e =
 
 -- behind the ranges
 keys_of : (hs : List Heading) (s : Sentence) (o : Option TextErr) (vars : List Var) (keys : List SortKey) → vars ≡ vars_of hs s → map (sort_key (head_in hs s)) s.keys ≡ keys →
-    result_of (with_vars (λ keys. found_of (has_fold s) s.unique (with_wishes hs (vars_of hs s) (record { plain = []; operands = []; head = [] }) s.wishes) (option_map (λ c. meaning_in hs (vars_of hs s) c.phrase) s.test) keys vars) vars (or_fault keys o)) ≡ or_fault (asked hs s) o
+    result_of (with_vars (λ keys. found_of (has_fold s) s (with_wishes hs (vars_of hs s) no_columns s.wishes) (option_map (λ c. meaning_in hs (vars_of hs s) c.phrase) s.test) keys vars) vars (or_fault keys o)) ≡ or_fault (asked hs s) o
 keys_of hs s None vars keys e k = rw (e, ← k) refl
 keys_of hs s (Some f) vars keys e k = refl
 
 keys_end : (hs : List Heading) (s : Sentence) (vars : List Var) → vars ≡ vars_of hs s →
-    result_of (with_vars (λ keys. found_of (has_fold s) s.unique (with_wishes hs (vars_of hs s) (record { plain = []; operands = []; head = [] }) s.wishes) (option_map (λ c. meaning_in hs (vars_of hs s) c.phrase) s.test) keys vars) vars (keys_checked (head_in hs s) [] s.keys)) ≡ or_fault (asked hs s) (keys_fault (head_in hs s) s.keys)
+    result_of (with_vars (λ keys. found_of (has_fold s) s (with_wishes hs (vars_of hs s) no_columns s.wishes) (option_map (λ c. meaning_in hs (vars_of hs s) c.phrase) s.test) keys vars) vars (keys_checked (head_in hs s) [] s.keys)) ≡ or_fault (asked hs s) (keys_fault (head_in hs s) s.keys)
 keys_end hs s vars e = rw (keys_agree (head_in hs s) [] s.keys) (keys_of hs s (keys_fault (head_in hs s) s.keys) vars (map (sort_key (head_in hs s)) s.keys) e refl)
 
 test_end : (hs : List Heading) (s : Sentence) (outcome : Result (Option Expression × List Var) TextErr) → TestAgrees hs (vars_of hs s) s.test outcome →
-    result_of (and_then outcome (λ test vars. with_vars (λ keys. found_of (has_fold s) s.unique (with_wishes hs (vars_of hs s) (record { plain = []; operands = []; head = [] }) s.wishes) test keys vars) vars (keys_checked (head_in hs s) [] s.keys))) ≡
+    result_of (and_then outcome (λ test vars. with_vars (λ keys. found_of (has_fold s) s (with_wishes hs (vars_of hs s) no_columns s.wishes) test keys vars) vars (keys_checked (head_in hs s) [] s.keys))) ≡
     or_fault (asked hs s) (option_or (test_fault hs (vars_of hs s) s.test) (keys_fault (head_in hs s) s.keys))
 test_end hs s (Err f) h = rw h refl
 test_end hs s (Ok p) h = rw (h.0.free, ← h.0.means) (keys_end hs s p.1 h.1)
 
-wishes_end : (hs : List Heading) (s : Sentence) (mid : List Var) (outcome : Result (Chosen × List Var) TextErr) → WishesAgree hs (is_some s.kept) (vars_of hs s) mid (record { plain = []; operands = []; head = [] }) s.wishes outcome →
+wishes_end : (hs : List Heading) (s : Sentence) (mid : List Var) (outcome : Result (Chosen × List Var) TextErr) → WishesAgree hs (is_some s.kept) (vars_of hs s) mid no_columns s.wishes outcome →
     (length mid ≤ 6 → TestAgrees hs (vars_of hs s) s.test (test_checked hs mid s.test)) →
-    result_of (and_then outcome (λ out vars. and_then (test_checked hs vars s.test) (λ test vars. with_vars (λ keys. found_of (has_fold s) s.unique out test keys vars) vars (keys_checked out.head [] s.keys)))) ≡
+    result_of (and_then outcome (λ out vars. and_then (test_checked hs vars s.test) (λ test vars. with_vars (λ keys. found_of (has_fold s) s out test keys vars) vars (keys_checked out.head [] s.keys)))) ≡
     or_fault (asked hs s) (option_or (wishes_fault hs (is_some s.kept) (vars_of hs s) [] s.wishes) (option_or (test_fault hs (vars_of hs s) s.test) (keys_fault (head_in hs s) s.keys)))
 wishes_end hs s mid (Err f) h k = rw h refl
 wishes_end hs s mid (Ok p) h k = rw (h.0.free, ← h.0.means, h.1.same) (test_end hs s (test_checked hs mid s.test) (k h.1.few))
@@ -86,8 +87,8 @@ wishes_end hs s mid (Ok p) h k = rw (h.0.free, ← h.0.means, h.1.same) (test_en
 to_end_agrees : (hs : List Heading) (s : Sentence) → HasNumbers s → length (map (var_of hs) s.ranges) ≤ 6 → to_end hs (has_fold s) s (map (var_of hs) s.ranges) ≡
     or_fault (asked hs s) (option_or (wishes_fault hs (is_some s.kept) (vars_of hs s) [] s.wishes) (option_or (test_fault hs (vars_of hs s) s.test) (keys_fault (head_in hs s) s.keys)))
 to_end_agrees hs s h few =
-    wishes_end hs s (grown hs (map (var_of hs) s.ranges) (flat_map wish_names s.wishes)) (wishes_checked hs (is_some s.kept) (map (var_of hs) s.ranges) (record { plain = []; operands = []; head = [] }) s.wishes)
-    (wishes_agree hs (is_some s.kept) (map (var_of hs) s.ranges) (test_names s.test) (record { plain = []; operands = []; head = [] }) s.wishes h.wishes few)
+    wishes_end hs s (grown hs (map (var_of hs) s.ranges) (flat_map wish_names s.wishes)) (wishes_checked hs (is_some s.kept) (map (var_of hs) s.ranges) no_columns s.wishes)
+    (wishes_agree hs (is_some s.kept) (map (var_of hs) s.ranges) (test_names s.test) no_columns s.wishes h.wishes few)
     (λ low. rw (grown_append hs (map (var_of hs) s.ranges) (flat_map wish_names s.wishes) (test_names s.test)) (test_agrees hs (grown hs (map (var_of hs) s.ranges) (flat_map wish_names s.wishes)) s.test h.test low))
 
 pub sentence_agrees : (hs : List Heading) (s : Sentence) → HasNumbers s → sentence_checked hs s ≡ or_fault (asked hs s) (sentence_fault hs s)
@@ -102,18 +103,18 @@ sentence_agrees hs s h = rw (ranges_agree hs [] s.ranges) (into (into_fault hs (
   into None = rest (ranges_fault hs [] s.ranges) refl
   into (Some f) = refl
 
-kept_same : (hs : List Heading) (s : Sentence) (o : Option IntoForm) → kept_by (head_in hs s) o ≡ kept_heading hs s o
+kept_same : (hs : List Heading) (s : Sentence) (o : Option IntoForm) → kept_by (head_in hs s) (kept_name o) ≡ kept_heading hs s o
 kept_same hs s None = refl
 kept_same hs s (Some into) = refl
 
-script_agrees : (hs : List Heading) (found : List Question) (ss : List Sentence) → All HasNumbers ss → script_checked hs found ss ≡ or_fault (found ++ questions_in hs ss) (script_fault hs ss)
+script_agrees : (hs : List Heading) (found : List Asked) (ss : List Sentence) → All HasNumbers ss → script_checked hs found ss ≡ or_fault (found ++ asked_in hs ss) (script_fault hs ss)
 script_agrees hs found [] h = ap (λ qs. Ok qs) (sym (append-nil found))
 script_agrees hs found (s ∷ ss) h =
     rw (sentence_agrees hs s (All-head HasNumbers s ss h))
-    (bound (asked hs s) (found ++ (question_in hs s ∷ questions_in (headings_after hs s) ss)) (sentence_fault hs s) (script_fault (headings_after hs s) ss) (λ a. script_checked (hs ++ kept_by a.head s.kept) (found ++ a.question ∷ []) ss)
+    (bound (asked hs s) (found ++ (asked hs s ∷ asked_in (headings_after hs s) ss)) (sentence_fault hs s) (script_fault (headings_after hs s) ss) (λ a. script_checked (hs ++ kept_by a.head a.into) (found ++ a ∷ []) ss)
     (rw (kept_same hs s s.kept)
-    (script_agrees (headings_after hs s) (found ++ question_in hs s ∷ []) ss (All-tail HasNumbers s ss h) ∙
-    ap (λ qs. or_fault qs (script_fault (headings_after hs s) ss)) (append_assoc found (question_in hs s ∷ []) (questions_in (headings_after hs s) ss)))))
+    (script_agrees (headings_after hs s) (found ++ asked hs s ∷ []) ss (All-tail HasNumbers s ss h) ∙
+    ap (λ qs. or_fault qs (script_fault (headings_after hs s) ss)) (append_assoc found (asked hs s ∷ []) (asked_in (headings_after hs s) ss)))))
 
-pub resolves : (hs : List Heading) (ss : List Sentence) → All HasNumbers ss → script_checked hs [] ss ≡ queries_of hs ss
+pub resolves : (hs : List Heading) (ss : List Sentence) → All HasNumbers ss → script_checked hs [] ss ≡ or_fault (asked_in hs ss) (script_fault hs ss)
 resolves hs ss h = script_agrees hs [] ss h

@@ -17,6 +17,7 @@ use Rattle.name_check.specs.Checked as step
 use Rattle.name_check.specs.Checked.{Meant, checked, and_then, with_vars}
 use Rattle.name_check.specs.Faults.{added, grown, names_in, range_fault_at, columns_at, columns_of, var_columns, type_in}
 use Rattle.name_check.specs.Sentences.{Shown, shown, all_shown, wish_names, wish_shown, wish_spot, head_of, output_by, is_fold, plain_outputs, fold_outputs, sum_fault, columns_fault, test_names, or_fault, WishNumbers, TestNumbers}
+use Rattle.name_check.specs.Folds.{op_of, wish_ops}
 use Rattle.name_check.specs.Steps.{named_as, shown_checked, Chosen, with_columns, wishes_checked, test_checked, test_type}
 use Rattle.name_check.specs.Agreed.{Fits, Agrees, RangeAgrees}
 use Rattle.name_check.specs.Whole.{ShownFits, ShownAgrees, WishesAgree, with_wishes, TestAgrees}
@@ -75,7 +76,7 @@ folds_next true old new rest = sym (append_assoc old new rest)
 folds_next false old new rest = refl
 
 with_next : (hs : List Heading) (vars : List Var) (out : Chosen) (w : Wish) (ws : List Wish) (new : List Shown) → wish_shown hs vars w ≡ new →
-    with_wishes hs vars out (w ∷ ws) ≡ with_wishes hs vars (with_columns (is_fold w) out new) ws
+    with_wishes hs vars out (w ∷ ws) ≡ with_wishes hs vars (with_columns w out new) ws
 with_next hs vars out w ws new e =
     let plain : out.plain ++ flat_map (plain_outputs hs vars) (w ∷ ws) ≡ (if is_fold w then out.plain else out.plain ++ map output_by new) ++ flat_map (plain_outputs hs vars) ws =
     rw e (plain_next (is_fold w) out.plain (map output_by new) (flat_map (plain_outputs hs vars) ws)) in
@@ -83,27 +84,29 @@ with_next hs vars out w ws new e =
     rw e (folds_next (is_fold w) out.operands (map output_by new) (flat_map (fold_outputs hs vars) ws)) in
     let head : out.head ++ flat_map (λ w. map head_of (wish_shown hs vars w)) (w ∷ ws) ≡ (out.head ++ map head_of new) ++ flat_map (λ w. map head_of (wish_shown hs vars w)) ws =
     rw e (sym (append_assoc out.head (map head_of new) (flat_map (λ w. map head_of (wish_shown hs vars w)) ws))) in
+    let ops : out.ops ++ flat_map (wish_ops hs vars) (w ∷ ws) ≡ (out.ops ++ map (λ s. op_of w) new) ++ flat_map (wish_ops hs vars) ws =
+    rw e (sym (append_assoc out.ops (map (λ s. op_of w) new) (flat_map (wish_ops hs vars) ws))) in
     cc
 
 next_agrees : (hs : List Heading) (limited : Bool) (vars now : List Var) (out : Chosen) (w : Wish) (ws : List Wish) (new : List Shown) → ShownFits hs vars w new →
-    columns_fault limited (wish_spot w) out.head new ≡ None → (outcome : Result (Chosen × List Var) TextErr) → WishesAgree hs limited vars now (with_columns (is_fold w) out new) ws outcome →
+    columns_fault limited (wish_spot w) out.head new ≡ None → (outcome : Result (Chosen × List Var) TextErr) → WishesAgree hs limited vars now (with_columns w out new) ws outcome →
     WishesAgree hs limited vars now out (w ∷ ws) outcome
 next_agrees hs limited vars now out w ws new h e (Err f) k = rw (h.free, h.means, e) k
 next_agrees hs limited vars now out w ws new h e (Ok p) k = (record { free = rw (h.free, h.means, e) k.0.free; means = with_next hs vars out w ws new h.means ∙ k.0.means }, k.1)
 
 wish_agrees : (hs : List Heading) (limited : Bool) (vars mid now : List Var) (out : Chosen) (w : Wish) (ws : List Wish) (outcome : Result (List Shown × List Var) TextErr) → ShownAgrees hs vars mid w outcome →
     (rest : Chosen → List Var → Result (Chosen × List Var) TextErr) → ((out : Chosen) → length mid ≤ 6 → WishesAgree hs limited vars now out ws (rest out mid)) →
-    WishesAgree hs limited vars now out (w ∷ ws) (and_then (and_then outcome (λ new vs. or_fault (with_columns (is_fold w) out new, vs) (columns_fault limited (wish_spot w) out.head new))) rest)
+    WishesAgree hs limited vars now out (w ∷ ws) (and_then (and_then outcome (λ new vs. or_fault (with_columns w out new, vs) (columns_fault limited (wish_spot w) out.head new))) rest)
 wish_agrees hs limited vars mid now out w ws (Err f) h rest k = rw h refl
 wish_agrees hs limited vars mid now out w ws (Ok p) h rest k = by (columns_fault limited (wish_spot w) out.head p.0) refl where
-  by : (o : Option TextErr) → columns_fault limited (wish_spot w) out.head p.0 ≡ o → WishesAgree hs limited vars now out (w ∷ ws) (and_then (or_fault (with_columns (is_fold w) out p.0, p.1) o) rest)
+  by : (o : Option TextErr) → columns_fault limited (wish_spot w) out.head p.0 ≡ o → WishesAgree hs limited vars now out (w ∷ ws) (and_then (or_fault (with_columns w out p.0, p.1) o) rest)
   by (Some f) e = rw (h.0.free, h.0.means, e) refl
-  by None e = next_agrees hs limited vars now out w ws p.0 h.0 e (rest (with_columns (is_fold w) out p.0) p.1)
-      (subst (λ vs. WishesAgree hs limited vars now (with_columns (is_fold w) out p.0) ws (rest (with_columns (is_fold w) out p.0) vs)) (sym h.1.same) (k (with_columns (is_fold w) out p.0) h.1.few))
+  by None e = next_agrees hs limited vars now out w ws p.0 h.0 e (rest (with_columns w out p.0) p.1)
+      (subst (λ vs. WishesAgree hs limited vars now (with_columns w out p.0) ws (rest (with_columns w out p.0) vs)) (sym h.1.same) (k (with_columns w out p.0) h.1.few))
 
 pub wishes_agree : (hs : List Heading) (limited : Bool) (vars : List Var) (more : List (List ℕ)) (out : Chosen) (ws : List Wish) → All WishNumbers ws → length vars ≤ 6 →
     WishesAgree hs limited (grown hs vars (flat_map wish_names ws ++ more)) (grown hs vars (flat_map wish_names ws)) out ws (wishes_checked hs limited vars out ws)
-wishes_agree hs limited vars more out [] h few = (record { free = refl; means = rw (append-nil out.plain, append-nil out.operands, append-nil out.head) refl }, record { same = refl; few = few })
+wishes_agree hs limited vars more out [] h few = (record { free = refl; means = rw (append-nil out.plain, append-nil out.operands, append-nil out.head, append-nil out.ops) refl }, record { same = refl; few = few })
 wishes_agree hs limited vars more out (w ∷ ws) h few =
     rw (append_assoc (wish_names w) (flat_map wish_names ws) more, grown_append hs vars (wish_names w) (flat_map wish_names ws))
     (wish_agrees hs limited (grown hs vars (wish_names w ++ (flat_map wish_names ws ++ more))) (grown hs vars (wish_names w)) (grown hs (grown hs vars (wish_names w)) (flat_map wish_names ws)) out w ws (shown_checked hs vars w)

@@ -5,8 +5,13 @@ pub mod Checked
 pub mod Faults
 pub mod Agreed
 pub mod Sentences
+pub mod Folds
+pub mod FoldSteps
+pub mod FoldFit
+pub mod Headers
 pub mod Steps
 pub mod Whole
+pub mod Listed
 pub mod Resolved
 pub mod Machine
 pub mod MachineSteps

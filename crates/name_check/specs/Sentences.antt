@@ -1,5 +1,5 @@
 -- The first fault of a statement and of a script, and the queries that they are.
-use Rattle.std.specs.Prelude.{All, ◌+◌, ℕ, Bool, true, false, not, ◌&&◌, nat_lt, List, [], ◌∷◌, ◌++◌, map, length, codes, Option, Some, None, is_some, Result, Ok, Err, if◌then◌else◌}
+use Rattle.std.specs.Prelude.{◌≡◌, All, ◌+◌, ℕ, Bool, true, false, not, ◌&&◌, nat_lt, List, [], ◌∷◌, ◌++◌, map, length, codes, Option, Some, None, is_some, Result, Ok, Err, if◌then◌else◌}
 use Rattle.std.specs.List.{flat_map, list_any}
 use Rattle.std.specs.Option.{option_map, option_or, unwrap_or}
 use Rattle.std.specs.Str.{bytes_eq}
@@ -199,6 +199,10 @@ head_column c = record { name = c.name; layout = layout_column c }
 -- a relation of the catalogue
 abbrev pub heading_of : Relation → Heading
 heading_of r = record { name = r.name; columns = map head_column r.columns }
+
+-- a script without a fault over a catalogue
+abbrev pub HasNoFault : List Relation → List Sentence → Type 0
+HasNoFault catalog script = script_fault (map heading_of catalog) script ≡ None
 
 abbrev pub WishNumbers : Wish → Type 0
 WishNumbers (phrase.Titled name e) = NumbersFit e

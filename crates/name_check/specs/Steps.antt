@@ -1,5 +1,7 @@
 -- A statement's checks, step by step.
 use Rattle.std.specs.Prelude.{ℕ, Bool, not, ◌&&◌, List, [], ◌∷◌, ◌++◌, map, Option, Some, None, is_some, Result, Ok, Err, if◌then◌else◌}
+use Rattle.aggregate_op.specs.declared.fold.FoldOp.{FoldOp}
+use Rattle.aggregate_op.specs.declared.fold.FoldPlan.{FoldPlan}
 use Rattle.rows.specs.declared.order.SortKey.{SortKey}
 use Rattle.postquel_tokens.specs.declared.form.RangeForm.{RangeForm}
 use Rattle.postquel_tokens.specs.declared.form.KeyForm.{KeyForm}
@@ -16,9 +18,12 @@ use Rattle.name_check.specs.declared.heading.Heading.{Heading}
 use Rattle.name_check.specs.declared.columns.Column.{Column}
 use Rattle.name_check.specs.declared.columns.Outputs.{Outputs}
 use Rattle.name_check.specs.declared.statement.Found.{Found}
+use Rattle.name_check.specs.declared.statement.Sorted.{Sorted}
 use Rattle.name_check.specs.Types.{at}
 use Rattle.name_check.specs.Checked.{Meant, and_then, with_vars, checked, column, range, columns_of}
 use Rattle.name_check.specs.Faults.{column_named}
+use Rattle.name_check.specs.Folds.{fold_of, op_of}
+use Rattle.name_check.specs.Headers.{kept_name}
 use Rattle.name_check.specs.Sentences.{Shown, head_of, output_by, is_fold, has_fold, var_of, all_shown, into_fault, range_form_fault, sum_fault, wish_spot, columns_fault, or_fault}
 
 abbrev pub shown_of : Column → Shown
@@ -51,20 +56,25 @@ pub record Chosen : Type 0 where
   pub plain : List Output
   pub operands : List Output
   pub head : List HeadColumn
+  pub ops : List (Option FoldOp)
+
+abbrev pub no_columns : Chosen
+no_columns = record { plain = []; operands = []; head = []; ops = [] }
 
 abbrev pub chosen_of : Outputs → Chosen
-chosen_of out = record { plain = map output_of out.plain.items; operands = map output_of out.operands.items; head = out.head.items }
+chosen_of out = record { plain = map output_of out.plain.items; operands = map output_of out.operands.items; head = out.head.items; ops = out.ops.items }
 
-abbrev pub with_columns : Bool → Chosen → List Shown → Chosen
-with_columns fold out new = record {
-  plain = if fold then out.plain else out.plain ++ map output_by new;
-  operands = if fold then out.operands ++ map output_by new else out.operands;
+abbrev pub with_columns : Wish → Chosen → List Shown → Chosen
+with_columns w out new = record {
+  plain = if is_fold w then out.plain else out.plain ++ map output_by new;
+  operands = if is_fold w then out.operands ++ map output_by new else out.operands;
   head = out.head ++ map head_of new;
+  ops = out.ops ++ map (λ s. op_of w) new;
 }
 
 abbrev pub wish_checked : List Heading → Bool → List Var → Chosen → Wish → Result (Chosen × List Var) TextErr
 wish_checked headings limited vars out w =
-    and_then (shown_checked headings vars w) (λ new vars. or_fault (with_columns (is_fold w) out new, vars) (columns_fault limited (wish_spot w) out.head new))
+    and_then (shown_checked headings vars w) (λ new vars. or_fault (with_columns w out new, vars) (columns_fault limited (wish_spot w) out.head new))
 
 abbrev pub wishes_checked : List Heading → Bool → List Var → Chosen → List Wish → Result (Chosen × List Var) TextErr
 wishes_checked headings limited vars out [] = Ok (out, vars)
@@ -92,35 +102,51 @@ abbrev pub keys_checked : List HeadColumn → List SortKey → List KeyForm → 
 keys_checked head found [] = Ok found
 keys_checked head found (k ∷ ks) = bind (key_checked head k) (λ key. keys_checked head (found ++ key ∷ []) ks)
 
--- a query, the header of its answer, and the relation that it keeps
+-- a query, the columns of its answer, its fold, and the name of what it keeps
 pub record Asked : Type 0 where
   pub question : Question
   pub head : List HeadColumn
+  pub plan : Option FoldPlan
+  pub into : Option (List ℕ)
 
 abbrev pub view_of : Found → Asked
-view_of f = record { question = question_of f.query; head = f.head }
+view_of f = record { question = question_of f.query; head = f.head; plan = f.plan; into = f.into }
 
-abbrev pub found_of : Bool → Bool → Chosen → Option Expression → List SortKey → List Var → Asked
-found_of folds unique out test keys vars = record {
-  question = record { vars = vars; targets = out.plain ++ out.operands; test = test; unique = unique && not folds; keys = if folds then [] else keys };
+-- the sort keys of a query, or its fold with those of its answer
+abbrev pub sorted_by : Bool → List (Option FoldOp) → List SortKey → Sorted
+sorted_by folds ops keys =
+    if folds then record { keys = []; plan = Some (record { fold = fold_of ops; keys = keys }) }
+    else record { keys = keys; plan = None }
+
+abbrev pub query_by : Bool → List Output → List Output → Option Expression → List SortKey → List Var → Question
+query_by unique plain operands test keys vars = record { vars = vars; targets = plain ++ operands; test = test; unique = unique; keys = keys }
+
+abbrev pub found_of : Bool → Sentence → Chosen → Option Expression → List SortKey → List Var → Asked
+found_of folds s out test keys vars = record {
+  question = record { vars = vars; targets = out.plain ++ out.operands; test = test; unique = s.unique && not folds; keys = if folds then [] else keys };
   head = out.head;
+  plan = if folds then Some (record { fold = fold_of out.ops; keys = keys }) else None;
+  into = kept_name s.kept;
 }
 
 abbrev pub to_end : List Heading → Bool → Sentence → List Var → Result Asked TextErr
 to_end headings folds s vars =
-    result_of (and_then (wishes_checked headings (is_some s.kept) vars (record { plain = []; operands = []; head = [] }) s.wishes) (λ out vars.
+    result_of (and_then (wishes_checked headings (is_some s.kept) vars no_columns s.wishes) (λ out vars.
     and_then (test_checked headings vars s.test) (λ test vars.
-    with_vars (λ keys. found_of folds s.unique out test keys vars) vars (keys_checked out.head [] s.keys))))
+    with_vars (λ keys. found_of folds s out test keys vars) vars (keys_checked out.head [] s.keys))))
 
 -- a statement's query and its header
 abbrev pub sentence_checked : List Heading → Sentence → Result Asked TextErr
 sentence_checked headings s =
     unless (into_fault headings (has_fold s) s.kept) (bind (ranges_checked headings [] s.ranges) (to_end headings (has_fold s) s))
 
-abbrev pub kept_by : List HeadColumn → Option IntoForm → List Heading
-kept_by columns None = []
-kept_by columns (Some into) = record { name = into.name.text; columns = columns } ∷ []
+abbrev pub question_by : Asked → Question
+question_by a = a.question
 
-abbrev pub script_checked : List Heading → List Question → List Sentence → Result (List Question) TextErr
+abbrev pub kept_by : List HeadColumn → Option (List ℕ) → List Heading
+kept_by columns None = []
+kept_by columns (Some name) = record { name = name; columns = columns } ∷ []
+
+abbrev pub script_checked : List Heading → List Asked → List Sentence → Result (List Asked) TextErr
 script_checked headings found [] = Ok found
-script_checked headings found (s ∷ ss) = bind (sentence_checked headings s) (λ a. script_checked (headings ++ kept_by a.head s.kept) (found ++ a.question ∷ []) ss)
+script_checked headings found (s ∷ ss) = bind (sentence_checked headings s) (λ a. script_checked (headings ++ kept_by a.head a.into) (found ++ a ∷ []) ss)

@@ -1,6 +1,7 @@
 //! The columns that targets show.
 
-ghost use Rattle.std.specs.Prelude.{◌≡◌, ◌&&◌, ◌+◌, nat_lt, ◌++◌, [], map, IfOk, OnOk, Some, is_some, true};
+ghost use Rattle.std.specs.Prelude.{◌≡◌, ◌&&◌, ◌+◌, nat_lt, ◌++◌, [], map};
+ghost use Rattle.std.specs.Prelude.{IfOk, OnOk, Some, is_some, true};
 ghost use Rattle.std.specs.List.{list_any};
 ghost use Rattle.std.specs.Result.{result_err};
 ghost use Rattle.postquel_tokens.specs.Forms.{wish_of};
@@ -14,7 +15,9 @@ ghost use Rattle.name_check.specs.Steps as spec;
 ghost use Rattle.name_check.specs.Steps.{chosen_of, shown_of};
 
 use crate::checking::{Typed, column, columns_of, expression, range_ref};
+use crate::folding::op_of;
 use crate::heading::{HeadColumn, Heading, number, place_of};
+use aggregate_op::FoldOp;
 use lists::Duplicate;
 use postquel_tokens::{Ident, Spot, TargetForm, TextErr, What};
 use rel_meaning::{Expr, Target, Var};
@@ -35,10 +38,12 @@ pub(crate) struct Outputs {
     pub plain: Vec<Target>,
     pub operands: Vec<Target>,
     pub head: Vec<HeadColumn>,
+    pub ops: Vec<Option<FoldOp>>,
 }
 
 fn named(alloc: Global, name: &Ident, typed: Typed) -> Result<Vec<Column>, AllocError>
-    ensures { IfOk result (λ v. map shown_of v.items ≡ spec.named_as name.now.text (checked_spec.meant_of typed)) }
+    ensures { IfOk result (λ v. map shown_of v.items
+        ≡ spec.named_as name.now.text (checked_spec.meant_of typed)) }
 {
     let mut columns = Vec::new(alloc);
     columns.push(Column {
@@ -68,7 +73,8 @@ fn all_columns(alloc: Global, var: u32, columns: &[HeadColumn]) -> Result<Vec<Co
 
 // The operand of a fold, which of `sum` is an integer.
 fn operand(fold: &Ident, typed: Typed) -> Result<Typed, TextErr>
-    ensures { Gives checked_spec.meant_of (sentences.or_fault (checked_spec.meant_of typed) (sentences.sum_fault fold.now (Some typed.layout))) result }
+    ensures { Gives checked_spec.meant_of (sentences.or_fault (checked_spec.meant_of typed)
+        (sentences.sum_fault fold.now (Some typed.layout))) result }
 {
     if fold.text.items() == b"sum".as_slice() && typed.layout.col_type != ColType::Int4 {
         return Err(TextErr::at(fold.spot, What::TypeMismatch));
@@ -82,7 +88,9 @@ fn shown(
     vars: &mut Vec<Var>,
     target: &TargetForm,
 ) -> Result<Vec<Column>, TextErr>
-    ensures { Tells (λ v. map shown_of v.items) (spec.shown_checked headings.now vars.old.items (wish_of target.now)) result vars.new.items }
+    ensures { Tells (λ v. map shown_of v.items)
+        (spec.shown_checked headings.now vars.old.items (wish_of target.now)) result
+        vars.new.items }
 {
     match target {
         TargetForm::Named { name, form } => {
@@ -136,14 +144,31 @@ fn test_columns(
     Ok(())
 }
 
+// The op of a target's columns.
+fn add_ops(
+    ops: &mut Vec<Option<FoldOp>>,
+    op: Option<FoldOp>,
+    columns: &[Column],
+) -> Result<(), AllocError>
+    ensures { OnOk result (ops.new.items
+        ≡ ops.old.items ++ map (λ s. op) (map shown_of columns.now)) }
+{
+    for _column in columns {
+        ops.push(op)?;
+    }
+    Ok(())
+}
+
 fn add_columns(
     alloc: Global,
     head: &mut Vec<HeadColumn>,
     list: &mut Vec<Target>,
     new: Vec<Column>,
 ) -> Result<(), AllocError>
-    ensures head { OnOk result (head.new.items ≡ head.old.items ++ map head_of (map shown_of new.items)) }
-    ensures list { OnOk result (map output_of list.new.items ≡ map output_of list.old.items ++ map output_by (map shown_of new.items)) }
+    ensures head { OnOk result (head.new.items
+        ≡ head.old.items ++ map head_of (map shown_of new.items)) }
+    ensures list { OnOk result (map output_of list.new.items
+        ≡ map output_of list.old.items ++ map output_by (map shown_of new.items)) }
 {
     for column in new {
         head.push(HeadColumn {
@@ -179,6 +204,24 @@ pub(crate) fn is_fold(target: &TargetForm) -> bool
     matches!(target, TargetForm::Fold { .. })
 }
 
+// Puts the columns of a target behind the others.
+fn add_shown(
+    alloc: Global,
+    out: &mut Outputs,
+    target: &TargetForm,
+    new: Vec<Column>,
+) -> Result<(), AllocError>
+    ensures { OnOk result (chosen_of out.new
+        ≡ spec.with_columns (wish_of target.now) (chosen_of out.old) (map shown_of new.items)) }
+{
+    add_ops(&mut out.ops, op_of(target), new.as_slice())?;
+    if is_fold(target) {
+        add_columns(alloc, &mut out.head, &mut out.operands, new)
+    } else {
+        add_columns(alloc, &mut out.head, &mut out.plain, new)
+    }
+}
+
 fn add_target(
     alloc: Global,
     headings: &[Heading],
@@ -187,7 +230,9 @@ fn add_target(
     out: &mut Outputs,
     target: &TargetForm,
 ) -> Result<(), TextErr>
-    ensures { Tells (λ u. chosen_of out.new) (spec.wish_checked headings.now limited vars.old.items (chosen_of out.old) (wish_of target.now)) result vars.new.items }
+    ensures { Tells (λ u. chosen_of out.new)
+        (spec.wish_checked headings.now limited vars.old.items (chosen_of out.old)
+        (wish_of target.now)) result vars.new.items }
 {
     let new = shown(alloc, headings, vars, target)?;
     test_columns(
@@ -196,12 +241,7 @@ fn add_target(
         out.head.as_slice(),
         new.as_slice(),
     )?;
-    if is_fold(target) {
-        add_columns(alloc, &mut out.head, &mut out.operands, new)?;
-    } else {
-        add_columns(alloc, &mut out.head, &mut out.plain, new)?;
-    }
-    Ok(())
+    Ok(add_shown(alloc, out, target, new)?)
 }
 
 pub(crate) fn targets(
@@ -211,12 +251,14 @@ pub(crate) fn targets(
     vars: &mut Vec<Var>,
     targets: &[TargetForm],
 ) -> Result<Outputs, TextErr>
-    ensures { Tells chosen_of (spec.wishes_checked headings.now limited vars.old.items (record { plain = []; operands = []; head = [] }) (map wish_of targets.now)) result vars.new.items }
+    ensures { Tells chosen_of (spec.wishes_checked headings.now limited vars.old.items
+        spec.no_columns (map wish_of targets.now)) result vars.new.items }
 {
     let mut out = Outputs {
         plain: Vec::new(alloc),
         operands: Vec::new(alloc),
         head: Vec::new(alloc),
+        ops: Vec::new(alloc),
     };
     for target in targets {
         add_target(alloc, headings, limited, vars, &mut out, target)?;

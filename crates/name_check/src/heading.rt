@@ -1,10 +1,11 @@
 ghost use Rattle.std.specs.Prelude.{◌≡◌, ◌<◌, length, position, List, ℕ, IfOk, IfErr, IfSome};
 ghost use Rattle.name_check.specs.Places.{place_by, same};
 
-use lists::Sequence;
+use lists::{Duplicate, Sequence};
 use postquel_tokens::TextErr;
 use rel_meaning::Var;
 use rows::{LayoutColumn, Text};
+use std::alloc::{AllocError, Global};
 
 /// A column that a script may name.
 #[derive(Drop)]
@@ -20,6 +21,20 @@ pub(crate) type HeadColumnList = Sequence<HeadColumn>;
 pub(crate) struct Heading {
     pub name: Text,
     pub columns: HeadColumnList,
+}
+
+/// A copy of columns.
+pub(crate) fn copies(alloc: Global, columns: &[HeadColumn]) -> Result<HeadColumnList, AllocError>
+    ensures { IfOk result (λ list. list ≡ columns.now) }
+{
+    let mut list = Vec::new(alloc);
+    for column in columns {
+        list.push(HeadColumn {
+            name: column.name.duplicate(alloc)?,
+            layout: column.layout,
+        })?;
+    }
+    Ok(Sequence::from_vec(list))
 }
 
 // A place as a number; lists with more places than that have no room in memory.

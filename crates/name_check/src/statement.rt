@@ -7,26 +7,31 @@ ghost use Rattle.std.specs.Result.{result_err};
 ghost use Rattle.postquel_tokens.specs.Forms.{condition_of, sentence_of, wish_of};
 ghost use Rattle.rel_meaning.specs.Expression.{expression_of, output_of, question_of};
 ghost use Rattle.name_check.specs.Checked.{Gives, Tells};
+ghost use Rattle.name_check.specs.Headers.{kept_name};
 ghost use Rattle.name_check.specs.Sentences as sentences;
 ghost use Rattle.name_check.specs.Steps as spec;
 ghost use Rattle.name_check.specs.Steps.{chosen_of};
 
 use crate::checking::expression;
 use crate::columns::{Outputs, is_fold, targets};
+use crate::folding::fold;
 use crate::heading::{HeadColumn, HeadColumnList, Heading, number, place_of};
+use aggregate_op::{FoldOp, FoldPlan};
 use lists::{Duplicate, Sequence};
 use postquel_tokens::{
     IntoForm, KeyForm, RangeForm, Statement, TargetForm, TestForm, TextErr, What,
 };
 use rel_meaning::{Expr, Query, Target, Var};
-use rows::{ColType, SortKey};
+use rows::{ColType, SortKey, SortKeyList, Text};
 use std::alloc::{AllocError, Global};
 
-/// A query and the header of its answer.
+/// A query, the columns of its answer, its fold, and the name of what it keeps.
 #[derive(Drop)]
 pub(crate) struct Found {
     pub query: Query,
     pub head: HeadColumnList,
+    pub plan: Option<FoldPlan>,
+    pub into: Option<Text>,
 }
 
 fn has_fold(targets: &[TargetForm]) -> bool
@@ -64,7 +69,9 @@ fn add_range(
     vars: &mut Vec<Var>,
     range: &RangeForm,
 ) -> Result<(), TextErr>
-    ensures { Gives (λ u. vars.new.items) (sentences.or_fault (vars.old.items ++ sentences.var_of headings.now range.now ∷ []) (sentences.range_form_fault headings.now vars.old.items range.now)) result }
+    ensures { Gives (λ u. vars.new.items) (sentences.or_fault
+        (vars.old.items ++ sentences.var_of headings.now range.now ∷ [])
+        (sentences.range_form_fault headings.now vars.old.items range.now)) result }
 {
     if vars.len() >= 6 {
         return Err(TextErr::at(range.var.spot, What::TooManyRanges));
@@ -98,7 +105,8 @@ fn test(
     vars: &mut Vec<Var>,
     test: &Option<TestForm>,
 ) -> Result<Option<Expr>, TextErr>
-    ensures { Tells (option_map expression_of) (spec.test_checked headings.now vars.old.items (option_map condition_of test.now)) result vars.new.items }
+    ensures { Tells (option_map expression_of) (spec.test_checked headings.now vars.old.items
+        (option_map condition_of test.now)) result vars.new.items }
 {
     let Some(test) = test else {
         return Ok(None);
@@ -133,7 +141,8 @@ fn keys(alloc: Global, head: &[HeadColumn], keys: &[KeyForm]) -> Result<Vec<Sort
 }
 
 fn joined(mut first: Vec<Target>, second: Vec<Target>) -> Result<Vec<Target>, AllocError>
-    ensures { IfOk result (λ v. map output_of v.items ≡ map output_of first.items ++ map output_of second.items) }
+    ensures { IfOk result (λ v. map output_of v.items
+        ≡ map output_of first.items ++ map output_of second.items) }
 {
     for target in second {
         first.push(target)?;
@@ -141,31 +150,82 @@ fn joined(mut first: Vec<Target>, second: Vec<Target>) -> Result<Vec<Target>, Al
     Ok(first)
 }
 
-fn make_found(
+// The sort keys of a query, or the fold with those of its answer.
+#[derive(Drop)]
+struct Sorted {
+    keys: SortKeyList,
+    plan: Option<FoldPlan>,
+}
+
+fn sort_ends(
     alloc: Global,
     folds: bool,
+    ops: &[Option<FoldOp>],
+    keys: Vec<SortKey>,
+) -> Result<Sorted, TextErr>
+    ensures { Gives (λ s. s) (Ok (spec.sorted_by folds ops.now keys.items)) result }
+{
+    let keys = Sequence::from_vec(keys);
+    if !folds {
+        return Ok(Sorted { keys, plan: None });
+    }
+    let fold = fold(alloc, ops)?;
+    Ok(Sorted {
+        keys: Sequence::new(alloc),
+        plan: Some(FoldPlan { fold, keys }),
+    })
+}
+
+// The name of what a statement keeps.
+fn kept_name(alloc: Global, into: &Option<IntoForm>) -> Result<Option<Text>, AllocError>
+    ensures { IfOk result (λ name. name ≡ kept_name into.now) }
+{
+    match into {
+        Some(into) => Ok(Some(into.name.text.duplicate(alloc)?)),
+        None => Ok(None),
+    }
+}
+
+fn make_query(
     unique: bool,
+    plain: Vec<Target>,
+    operands: Vec<Target>,
+    test: Option<Expr>,
+    keys: SortKeyList,
+    vars: Vec<Var>,
+) -> Result<Query, AllocError>
+    ensures { IfOk result (λ q. question_of q ≡ spec.query_by unique (map output_of plain.items)
+        (map output_of operands.items) (option_map expression_of test) keys vars.items) }
+{
+    Ok(Query {
+        vars: Sequence::from_vec(vars),
+        targets: Sequence::from_vec(joined(plain, operands)?),
+        test,
+        unique,
+        keys,
+    })
+}
+
+fn make_found(
+    alloc: Global,
+    statement: &Statement,
+    folds: bool,
     out: Outputs,
     test: Option<Expr>,
     keys: Vec<SortKey>,
     vars: Vec<Var>,
 ) -> Result<Found, TextErr>
-    ensures { Gives spec.view_of (Ok (spec.found_of folds unique (chosen_of out) (option_map expression_of test) keys.items vars.items)) result }
+    ensures { Gives spec.view_of (Ok (spec.found_of folds (sentence_of statement.now)
+        (chosen_of out) (option_map expression_of test) keys.items vars.items)) result }
 {
-    let query = Query {
-        vars: Sequence::from_vec(vars),
-        targets: Sequence::from_vec(joined(out.plain, out.operands)?),
-        test,
-        unique: unique && !folds,
-        keys: if folds {
-            Sequence::new(alloc)
-        } else {
-            Sequence::from_vec(keys)
-        },
-    };
+    let sorted = sort_ends(alloc, folds, out.ops.as_slice(), keys)?;
+    let unique = statement.unique && !folds;
+    let query = make_query(unique, out.plain, out.operands, test, sorted.keys, vars)?;
     Ok(Found {
         query,
         head: Sequence::from_vec(out.head),
+        plan: sorted.plan,
+        into: kept_name(alloc, &statement.into)?,
     })
 }
 
@@ -176,7 +236,8 @@ fn checked(
     folds: bool,
     mut vars: Vec<Var>,
 ) -> Result<Found, TextErr>
-    ensures { Gives spec.view_of (spec.to_end headings.now folds (sentence_of statement.now) vars.items) result }
+    ensures { Gives spec.view_of
+        (spec.to_end headings.now folds (sentence_of statement.now) vars.items) result }
 {
     let limited = statement.into.is_some();
     let out = targets(
@@ -188,7 +249,7 @@ fn checked(
     )?;
     let test = test(alloc, headings, &mut vars, &statement.test)?;
     let keys = keys(alloc, out.head.as_slice(), statement.keys.items())?;
-    make_found(alloc, folds, statement.unique, out, test, keys, vars)
+    make_found(alloc, statement, folds, out, test, keys, vars)
 }
 
 /// A statement's query and the header of its answer, where its checks find no fault.
@@ -197,7 +258,8 @@ pub(crate) fn query(
     headings: &[Heading],
     statement: &Statement,
 ) -> Result<Found, TextErr>
-    ensures { Gives spec.view_of (spec.sentence_checked headings.now (sentence_of statement.now)) result }
+    ensures { Gives spec.view_of
+        (spec.sentence_checked headings.now (sentence_of statement.now)) result }
 {
     let folds = folds(statement);
     into_fault(headings, folds, &statement.into)?;

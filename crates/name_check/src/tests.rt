@@ -3,11 +3,14 @@ ghost use Rattle.postquel.specs.Program.{program_of};
 ghost use Rattle.postquel.specs.Reading.{IsLexed};
 ghost use Rattle.name_check.specs.Sentences.{HasNumbers};
 
-use crate::{has_fold, has_into, machine_of, numbers_fit, resolve};
+use crate::{
+    FoldOp, FoldPlace, FoldPlan, Header, Kept, KeptList, folds_of, has_fold, has_into, headers_of,
+    kept_of, machine_of, numbers_fit, resolve,
+};
 use lists::Sequence;
 use postquel::{Script, lex, parse};
 use postquel_tokens::{TextErr, TokenList};
-use rows::{Catalog, ColType, Column, Relation, Text};
+use rows::{Catalog, ColType, Column, Relation, SortKey, Text};
 use std::alloc::Global;
 use std::test::Fail;
 
@@ -108,6 +111,142 @@ fn each_script_has_its_first_fault_or_its_queries(rt: HostRuntime) -> Result<(),
     for line in TABLE.lines() {
         let (script, wanted) = line.split_once(" -> ").ok_or("a line has no answer")?;
         let text = answer_text(rt.alloc(), script.as_bytes())?;
+        assert_eq!(rt; text.as_str(), wanted, "{script}");
+    }
+    Ok(())
+}
+
+// Each line is a script, then for each statement its fold and header, and what the script keeps.
+const LISTED: &str =
+    "retrieve (n = count(A.x), A.y, m = min(A.x), z = A.b) sort by m using >, y \\g -> ; groups 2 ops Count Min places o0 g0 o1 g1 keys 2> 1<; header n y m z
+retrieve (A.all, most = max(A.x)) \\g -> ; groups 3 ops Max places g0 g1 g2 o0 keys; header x y b most
+retrieve (s = sum(A.x), c = count(A.y)) sort by c \\g retrieve (a.all, n = 1) from a in A sort by y \\g -> ; groups 0 ops Sum Count places o0 o1 keys 1<; header s c; no fold; header x y b n
+retrieve into K (A.all, n = A.x * 3) \\g retrieve into L (K.n, m = K.x + K.n) \\g retrieve (k.all, low = min(L.m)) from k in L \\g -> ; no fold; header x y b n; no fold; header n m; groups 2 ops Min places g0 g1 o0 keys; header n m low; keeps K of 0: x Int4 2147483648 y Text 0 b Bool 0 n Int4 6442450944; keeps L of 1: n Int4 6442450944 m Int4 8589934592";
+
+fn spelled(alloc: Global, name: &Text) -> Result<String, TextErr> {
+    let mut text = String::new(alloc);
+    for byte in name.items() {
+        text.push(char::from(*byte))?;
+    }
+    Ok(text)
+}
+
+fn place_text(alloc: Global, text: String, place: FoldPlace) -> Result<String, TextErr> {
+    match place {
+        FoldPlace::Group(number) => Ok(format!(in alloc; "{text} g{number}")?),
+        FoldPlace::Op(number) => Ok(format!(in alloc; "{text} o{number}")?),
+    }
+}
+
+fn key_text(alloc: Global, text: String, key: SortKey) -> Result<String, TextErr> {
+    let mark = if key.down { '>' } else { '<' };
+    Ok(format!(in alloc; "{text} {}{mark}", key.column)?)
+}
+
+fn ops_text(alloc: Global, ops: &[FoldOp]) -> Result<String, TextErr> {
+    let mut text = String::new(alloc);
+    for op in ops {
+        text = format!(in alloc; "{text} {op:?}")?;
+    }
+    Ok(text)
+}
+
+fn places_text(alloc: Global, places: &[FoldPlace]) -> Result<String, TextErr> {
+    let mut text = String::new(alloc);
+    for place in places {
+        text = place_text(alloc, text, *place)?;
+    }
+    Ok(text)
+}
+
+fn keys_text(alloc: Global, keys: &[SortKey]) -> Result<String, TextErr> {
+    let mut text = String::new(alloc);
+    for key in keys {
+        text = key_text(alloc, text, *key)?;
+    }
+    Ok(text)
+}
+
+fn fold_text(alloc: Global, plan: &Option<FoldPlan>) -> Result<String, TextErr> {
+    let Some(plan) = plan else {
+        return Ok(format!(in alloc; "no fold")?);
+    };
+    let groups = plan.fold.groups;
+    let ops = ops_text(alloc, plan.fold.ops.items())?;
+    let places = places_text(alloc, plan.fold.places.items())?;
+    let keys = keys_text(alloc, plan.keys.items())?;
+    Ok(format!(in alloc; "groups {groups} ops{ops} places{places} keys{keys}")?)
+}
+
+fn header_text(alloc: Global, header: &Header) -> Result<String, TextErr> {
+    let mut text = format!(in alloc; "header")?;
+    for name in header.items() {
+        let name = spelled(alloc, name)?;
+        text = format!(in alloc; "{text} {name}")?;
+    }
+    Ok(text)
+}
+
+fn column_text(
+    alloc: Global,
+    text: String,
+    column: &Column,
+    bound: u64,
+) -> Result<String, TextErr> {
+    let name = spelled(alloc, &column.name)?;
+    Ok(format!(in alloc; "{text} {name} {:?} {bound}", column.col_type)?)
+}
+
+fn one_kept_text(alloc: Global, kept: &Kept) -> Result<String, TextErr> {
+    let name = spelled(alloc, &kept.name)?;
+    let mut text = format!(in alloc; "; keeps {name} of {}:", kept.statement)?;
+    for (column, bound) in kept.columns.items().iter().zip(kept.bounds.items().iter()) {
+        text = column_text(alloc, text, column, *bound)?;
+    }
+    Ok(text)
+}
+
+fn kept_text(alloc: Global, list: &KeptList) -> Result<String, TextErr> {
+    let mut text = String::new(alloc);
+    for kept in list.items() {
+        text.push_str(one_kept_text(alloc, kept)?.as_str())?;
+    }
+    Ok(text)
+}
+
+fn statement_text(
+    alloc: Global,
+    plan: &Option<FoldPlan>,
+    header: &Header,
+) -> Result<String, TextErr> {
+    let fold = fold_text(alloc, plan)?;
+    let header = header_text(alloc, header)?;
+    Ok(format!(in alloc; "; {fold}; {header}")?)
+}
+
+fn listed(alloc: Global, text: &[u8]) -> Result<String, TextErr> {
+    let script = read(alloc, text)?;
+    let catalog = catalog(alloc)?;
+    resolve(alloc, &script, &catalog)?;
+    let plans = folds_of(alloc, &script, &catalog)?;
+    let headers = headers_of(alloc, &script, &catalog)?;
+    let mut text = String::new(alloc);
+    for (plan, header) in plans.items().iter().zip(headers.items().iter()) {
+        text.push_str(statement_text(alloc, plan, header)?.as_str())?;
+    }
+    let kept = kept_text(alloc, &kept_of(alloc, &script, &catalog)?)?;
+    text.push_str(kept.as_str())?;
+    Ok(text)
+}
+
+#[test]
+fn each_script_has_its_folds_headers_and_kept_relations(rt: HostRuntime) -> Result<(), Fail> {
+    for line in LISTED.lines() {
+        let (script, wanted) = line.split_once(" -> ").ok_or("a line has no answer")?;
+        let text = match listed(rt.alloc(), script.as_bytes()) {
+            Ok(text) => text,
+            Err(_) => return Err(Fail::from("a script was refused")),
+        };
         assert_eq!(rt; text.as_str(), wanted, "{script}");
     }
     Ok(())
