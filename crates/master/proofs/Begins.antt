@@ -34,7 +34,7 @@ use Rattle.history.specs.declared.event.Event.TheVariants as event
 use Rattle.history.proofs.Follows.{follows_begin}
 use Rattle.master.specs.Gives.{AllGiven, AreTwo, CanGive, IsCut, ready_in, running_in}
 use Rattle.master.specs.Kind.{Slotted, is_ended, is_running, scan_of}
-use Rattle.master.specs.Ledger.{HasAsks, IsKept, IsSlotOf, Tools, at, need, no_slot, outs_below, scans, unended}
+use Rattle.master.specs.Ledger.{HasAnswerRoom, HasAsks, IsKept, IsSlotOf, Tools, at, need, no_slot, outs_below, scans, unended}
 use Rattle.master.specs.Content.{HasContent}
 use Rattle.master.proofs.Contents.{none_there}
 use Rattle.master.proofs.Finishes.{AreBase, IsDecided, IsGiving, kept_given}
@@ -218,9 +218,9 @@ pub begin_decides : (m : Meaning) (mach : Machine) (d : Decision) → AreWellFor
 begin_decides m mach d formed machine is = decided (run_of m) [] (starts m.fragments) mach d (start_are m) (start_ordered m formed) machine is
 
 pub kept_begin : (m : Meaning) (later : List Event) (slots' : List Slotted) (t : Tools) (mach : Machine) (d : Decision) (divide : Option Event) → IsWithin (run_of m) → AreWellFormed (pieces_of m.fragments) → mach ≡ machine_at m.machine m.steps 0
-    → IsDecided mach (starts m.fragments) d → AllGiven (starts m.fragments) d divide slots' → later ≡ event.Begin d ∷ [] → t.decision ≡ d → t.finishes ≡ 0 → t.needed ≡ 0 → t.machine ≡ m.machine → t.steps ≡ m.steps
+    → IsDecided mach (starts m.fragments) d → AllGiven (starts m.fragments) d divide slots' → later ≡ event.Begin d ∷ [] → t.decision ≡ d → t.finishes ≡ 0 → t.needed ≡ 0 → t.machine ≡ m.machine → t.steps ≡ m.steps → HasAnswerRoom m t
     → length m.fragments ≤ t.running → length m.fragments ≤ t.ready → IsKept m later slots' t
-kept_begin m later slots' t mach d divide within formed machine is given₀ items decision' count needed tm ts running ready =
+kept_begin m later slots' t mach d divide within formed machine is given₀ items decision' count needed tm ts answers running ready =
     let size = length_starts 0 (length m.fragments) m.fragments in
     let ordered = start_ordered m formed in
     let given' = begin_given m slots' d divide given₀ in
@@ -244,6 +244,7 @@ kept_begin m later slots' t mach d divide within formed machine is given₀ item
       lists = (omega arith, omega arith);
       machine = tm;
       steps = ts;
+      answers = answers;
     } in
     let giving : IsGiving m (λ q. None) (λ q. false) later (event.Begin d ∷ []) t = record {
       is = ap reverse items;

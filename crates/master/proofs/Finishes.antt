@@ -31,7 +31,7 @@ use Rattle.master.specs.Gives.{AllGiven, AreTwo, CanGive, CanTake, GivesOne, Giv
 use Rattle.master.specs.Content.{HasContent, IsValue}
 use Rattle.master.specs.Kind.{Slotted, is_ended, is_running, is_waiting, scan_of}
 use Rattle.master.specs.Kind as kind
-use Rattle.master.specs.Ledger.{AreFed, Fits, HasAsks, IsKept, IsSlotOf, Ledger, Tools, at, need, needs, no_slot, scans, unended}
+use Rattle.master.specs.Ledger.{HasAnswerRoom, AreFed, Fits, HasAsks, IsKept, IsSlotOf, Ledger, Tools, at, need, needs, no_slot, scans, unended}
 use Rattle.master.specs.Meaning.{Meaning, run_of}
 use Rattle.master.proofs.Gave.{Unbegun, ended_stays, given_asks, given_begun, given_calm, given_content, given_ended, given_need, given_runs, given_same, running_not_ended, to_cut, to_given, unbegun_of}
 use Rattle.master.proofs.Kept.{looked, within_run}
@@ -99,6 +99,7 @@ pub record AreBase (m : Meaning) (o : ℕ → Option ℕ) (fin : ℕ → Bool) (
   pub lists : (length slots ≤ t.running) × (length slots ≤ t.ready)
   pub machine : t.machine ≡ m.machine
   pub steps : t.steps ≡ m.steps
+  pub answers : HasAnswerRoom m t
 
 -- the history that tells of the decision
 pub record IsGiving (m : Meaning) (o : ℕ → Option ℕ) (fin : ℕ → Bool) (later : List Event) (h : List Event) (t : Tools) : Type 0 where
@@ -189,6 +190,7 @@ kept_given m o fin k later h before slots slots' t mach divide base giving are i
       lists = (let a = base.lists.0 in let b = base.lists.1 in (omega arith, omega arith));
       machine = base.machine;
       steps = base.steps;
+      answers = base.answers;
     }
 
 -- ---- a finish
@@ -475,6 +477,7 @@ kept_finish m log later slots slots' t g n needed spare running ready v mach d d
       lists = (let a = k.lists.0 in let b = k.lists.1 in (omega arith, omega arith));
       machine = k.machine;
       steps = k.steps;
+      answers = k.answers;
     } in
     kept_given m (λ q. begun (reverse log) q) (λ q. is_finished (event.Finish g d ∷ reverse log) q) t.finishes later (reverse (log ++ finish_events g d divide)) (event.Finish g nothing ∷ reverse log) slots1 slots' t' mach divide
     base (giving_finish m log later slots t g v d divide t' k refl count items given'.cut) are is given' (finish_follows m log slots slots' t g v d divide ending decides given')

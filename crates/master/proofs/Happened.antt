@@ -67,3 +67,13 @@ answered l log slots g answer s s' view lt is told =
     let here = looked slots g s lt is ∙ ap (λ (x : Ledger). at x.slots g) view in
     let now = get_or-set_same slots g s' no_slot lt in
     subst (λ (x : Slotted). SettleAnswer (scans l.slots g) (scan_of x) answer) (sym now) (subst (λ (x : Slotted). SettleAnswer (scan_of x) (scan_of s') answer) here told)
+
+-- the moves that it made
+pub made_at : (l : Ledger) (log : List Event) (slots : List Slotted) (g role count : ℕ) (answer : Settled) (s s' : Slotted) → record { log = log; slots = slots } ≡ l → g < length slots → s ≡ get_or slots g s
+    → Makes (rule_by s.by_entries) 64 (scan_of s) (settle_moves (scan_of s).asked role count answer) (scan_of s')
+    → Makes (rule_by (at l.slots g).by_entries) 64 (scans l.slots g) (settle_moves (scans l.slots g).asked role count answer) (scans (set slots g s') g)
+made_at l log slots g role count answer s s' view lt is made =
+    let here = looked slots g s lt is ∙ ap (λ (x : Ledger). at x.slots g) view in
+    let now = get_or-set_same slots g s' no_slot lt in
+    subst (λ (x : Slotted). Makes (rule_by (at l.slots g).by_entries) 64 (scans l.slots g) (settle_moves (scans l.slots g).asked role count answer) (scan_of x)) (sym now)
+    (subst (λ (x : Slotted). Makes (rule_by x.by_entries) 64 (scan_of x) (settle_moves (scan_of x).asked role count answer) (scan_of s')) here made)

@@ -120,6 +120,7 @@ kept_board m log later h slots t g needed spare z o k lt content is local calm a
       lists = (omega (arith, size, k.lists.0), omega (arith, size, k.lists.1));
       machine = k.machine;
       steps = k.steps;
+      answers = k.answers;
     }
 
 -- the fragment has begun, at some degree
@@ -320,6 +321,7 @@ kept_room m log later slots t spare k items room = subst (λ xs. IsKept m xs slo
   lists = k.lists;
   machine = k.machine;
   steps = k.steps;
+  answers = k.answers;
 })
 
 -- a fragment was looked up and left as it was

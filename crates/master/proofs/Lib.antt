@@ -9,3 +9,6 @@ pub mod Loads
 pub mod Gave
 pub mod Finishes
 pub mod Begins
+pub mod Releases
+pub mod Progress
+pub mod Answered

@@ -167,7 +167,7 @@ none_seat : (m : Meaning) (log : List Event) (slots : List Slotted) (t : Tools) 
 none_seat m log slots t k found g lt may = let within : g < length slots = (let e = k.fits.size in omega arith) in first_none HasSeat m log slots t k seat_run found g within (from_seat m log slots t g k within may)
 
 -- ---- a count of those that aren't finished
-none_unended : (slots : List Slotted) → unended slots ≡ 0 → (f : ℕ) → f < length slots → is_ended (at slots f) ≡ true
+pub none_unended : (slots : List Slotted) → unended slots ≡ 0 → (f : ℕ) → f < length slots → is_ended (at slots f) ≡ true
 none_unended [] e f lt = absurd (omega arith)
 none_unended (s ∷ slots) e f lt = elim (cases_Bool (is_ended s)) [
   | inl y ↦ here f lt y (none_unended slots (let c = sum_by-cons (λ (x : Slotted). cond {A = ℕ} (is_ended x) 0 1) s slots in omega arith))
@@ -178,7 +178,7 @@ none_unended (s ∷ slots) e f lt = elim (cases_Bool (is_ended s)) [
     here zero lt y rest = y
     here (suc g) lt y rest = rest g (omega arith)
 
-some_unended : (slots : List Slotted) → 0 < unended slots → (f : ℕ) × (f < length slots) × (is_ended (at slots f) ≡ false)
+pub some_unended : (slots : List Slotted) → 0 < unended slots → (f : ℕ) × (f < length slots) × (is_ended (at slots f) ≡ false)
 some_unended [] e = absurd (omega arith)
 some_unended (s ∷ slots) e = elim (cases_Bool (is_ended s)) [
   | inl y ↦

@@ -4,6 +4,7 @@ use Rattle.std.specs.List.{list_all, sum_by}
 use Rattle.std.proofs.Common.{zero, suc}
 use Rattle.rows.specs.declared.plain.Machine.{Machine}
 use Rattle.rows.specs.declared.plain.Step.{Step}
+use Rattle.hash_join.specs.Table.{Table}
 use Rattle.page_partition.specs.declared.table.Mark.{Mark}
 use Rattle.page_partition.specs.Scan.{out_of}
 use Rattle.io_cpu_scheduler.specs.declared.load.Decision.{Decision}
@@ -18,6 +19,7 @@ use Rattle.history.specs.Projected.{begun, is_finished}
 use Rattle.history.specs.Running.{AreOrdered}
 use Rattle.history.specs.State.{finishes, load_of}
 use Rattle.master.specs.Content.{HasContent}
+use Rattle.master.specs.Lasts.{last_flags}
 use Rattle.master.specs.Kind.{Slotted, is_ended, is_running, is_waiting, scan_of, waiting}
 use Rattle.master.specs.Meaning.{Meaning, run_of}
 
@@ -93,7 +95,8 @@ abbrev pub HasAsks : ℕ → ℕ → Slotted → Type 0
 HasAsks n k s = n + (if is_some (scan_of s).asked then 1 else 0) + (if is_waiting s then 1 else 0) ≤ (scan_of s).scan.room + k
 
 -- what a control keeps beside its history and its fragments: the machine and its steps, the last decision, how many
--- fragments are finished, how many events may need room, the room there is, and the room of its lists of loads
+-- fragments are finished, how many events may need room, the room there is, the room of its lists of loads, which fragments
+-- are the last of their statements, and the list for the answers with its room
 pub record Tools : Type 0 where
   pub machine : Machine
   pub steps : List Step
@@ -103,6 +106,14 @@ pub record Tools : Type 0 where
   pub spare : ℕ
   pub running : ℕ
   pub ready : ℕ
+  pub lasts : List Bool
+  pub answers : List Table
+  pub answer_count : ℕ
+  pub answer_room : ℕ
+
+-- which fragments are the last of their statements, and an empty list with room for an answer of each fragment
+abbrev pub HasAnswerRoom : Meaning → Tools → Type 0
+HasAnswerRoom m t = (t.lasts ≡ last_flags m.fragments) × (t.answers ≡ []) × (t.answer_count ≡ 0) × (length m.fragments ≤ t.answer_room)
 
 pub record IsKept (m : Meaning) (log : List Event) (slots : List Slotted) (t : Tools) : Type 0 where
   pub fits : Fits m (record { log = log; slots = slots })
@@ -121,3 +132,4 @@ pub record IsKept (m : Meaning) (log : List Event) (slots : List Slotted) (t : T
   pub lists : (length slots ≤ t.running) × (length slots ≤ t.ready)
   pub machine : t.machine ≡ m.machine
   pub steps : t.steps ≡ m.steps
+  pub answers : HasAnswerRoom m t

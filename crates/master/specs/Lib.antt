@@ -2,6 +2,7 @@ pub mod Meaning
 pub mod Kind
 pub mod Boards
 pub mod Content
+pub mod Lasts
 pub mod Ledger
 pub mod Calls
 pub mod Firsts
@@ -9,3 +10,5 @@ pub mod Answers
 pub mod Gives
 pub mod Finish
 pub mod Starts
+pub mod Release
+pub mod Ends

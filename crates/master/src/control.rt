@@ -2,6 +2,7 @@
 ghost use Rattle.std.specs.Prelude.{◌≡◌, ℕ, ◌<◌, ◌≤◌, ◌+◌, ◌-◌, ◌++◌, [], ◌∷◌, true, false, length, reverse, slice_set, IfOk, OnErr, is_some, None, vec_len, vec_capacity};
 ghost use Rattle.page_partition.specs.Scan.{left_of, out_of};
 
+use crate::answers::{History, last_flags, values_where};
 use crate::decide::{decide, give};
 use crate::next::{Next, first_waiting, first_with_seat, values_of};
 use crate::places::places_of;
@@ -9,9 +10,10 @@ use crate::room::make_room;
 use crate::slot::Slot;
 use crate::start::start_slots;
 use adjust_protocol::{ArcList, Claimed, Seated, Settled};
-use hash_join::Built;
+use hash_join::{Built, BuiltList};
 use history::Event;
 use io_cpu_scheduler::{Decision, Load, machine_after};
+use lists::Sequence;
 use page_partition::Batch;
 use plan_tree::FragmentList;
 use rows::{Machine, Rows, StepList};
@@ -39,11 +41,13 @@ pub struct Control<K: RunName> {
     needed: usize,
     running: Vec<Load>,
     ready: Vec<Load>,
+    lasts: Vec<bool>,
+    answers: Vec<Arc<Built>>,
     name: PhantomData<K>,
 }
 
 impl<K: RunName> Model for Control<K> {
-    ghost use Rattle.std.specs.Prelude.{◌-◌, vec_len, vec_capacity};
+    ghost use Rattle.std.specs.Prelude.{◌-◌, map, vec_len, vec_capacity};
     ghost use Rattle.master.specs.Ledger.{IsKept, Ledger};
 
     ghost Value = { Ledger };
@@ -59,6 +63,10 @@ impl<K: RunName> Model for Control<K> {
       spare = vec_capacity c.history - vec_len c.history;
       running = vec_capacity c.running;
       ready = vec_capacity c.ready;
+      lasts = c.lasts.items;
+      answers = map (λ x. x.value) c.answers.items;
+      answer_count = vec_len c.answers;
+      answer_room = vec_capacity c.answers;
     }) };
 }
 
@@ -87,7 +95,10 @@ impl<K: RunName> Named for Control<K> {
 impl<K: RunName> Control<K> {
     ghost use Rattle.master.specs.Boards.{collected_as, with_board};
     ghost use Rattle.master.specs.Calls.{claim_events, moved_at, settle_events, settled_at};
-    ghost use Rattle.master.specs.Answers.{Claims, NextAnswer, next_events};
+    ghost use Rattle.master.specs.Answers.{Claims, IsRest, NextAnswer, next_events};
+    ghost use Rattle.master.specs.Ends.{AreAnswers};
+    ghost use Rattle.std.specs.Prelude.{map};
+    ghost use Rattle.master.specs.Release.{AreReleased};
     ghost use Rattle.master.specs.Meaning.{run_of};
     ghost use Rattle.history.specs.Allowed.{IsLowest, NoneOpen};
     ghost use Rattle.history.specs.State.{IsOpen, MaySeat, decision_after};
@@ -103,8 +114,9 @@ impl<K: RunName> Control<K> {
     ghost use Rattle.master.specs.Kind.{scan_of};
     ghost use Rattle.master.specs.Ledger.{Fits, at, scans};
     ghost use Rattle.adjust_protocol.specs.Moves as move;
-    ghost use Rattle.adjust_protocol.specs.Moves.{is_held};
-    ghost use Rattle.adjust_protocol.specs.Answers.{SettleAnswer, claim_moves};
+    ghost use Rattle.adjust_protocol.specs.Moves.{IsDue, Makes, is_held};
+    ghost use Rattle.adjust_protocol.specs.Answers.{SettleAnswer, claim_moves, settle_moves};
+    ghost use Rattle.history.specs.Boards.{rule_by};
     ghost use Rattle.history.specs.declared.event.Event.TheVariants as event;
 
     /// A run of these fragments on this machine, with the steps by which it changes, and its first
@@ -130,6 +142,8 @@ impl<K: RunName> Control<K> {
         let mut ready = Vec::with_capacity(alloc, fragments.len())?;
         let steps = steps.copy(alloc)?;
         let mut slots = start_slots(alloc, fragments.items())?;
+        let lasts = last_flags(alloc, fragments.items())?;
+        let answers = Vec::with_capacity(alloc, fragments.len())?;
         let first = machine_after(&machine, &steps, 0);
         let decision = decide(&slots, &mut running, &mut ready, &first);
         history.push_reserved(Event::Begin { decision });
@@ -144,6 +158,8 @@ impl<K: RunName> Control<K> {
             needed: 0,
             running,
             ready,
+            lasts,
+            answers,
             name: PhantomData,
         })
     }
@@ -291,6 +307,7 @@ impl<K: RunName> Control<K> {
         ensures events { self.new.log ≡ self.old.log ++ settle_events fragment role (length outputs) (scans self.old.slots fragment).asked result }
         ensures slots { self.new.slots ≡ settled_at self.old.slots fragment role outputs result }
         ensures answer { SettleAnswer (scans self.old.slots fragment) (scans self.new.slots fragment) result }
+        ensures moves { Makes (rule_by (at self.old.slots fragment).by_entries) 64 (scans self.old.slots fragment) (settle_moves (scans self.old.slots fragment).asked role (length outputs) result) (scans self.new.slots fragment) }
         ensures fits { Fits K.meaning self.new }
     {
         let slot = &mut self.slots[fragment as usize];
@@ -377,6 +394,30 @@ impl<K: RunName> Control<K> {
         slot.is_collecting()
     }
 
+    /// How many fragments the run has.
+    pub fn fragment_count(&self) -> u32
+        ensures { result ≡ length self.now.slots }
+    {
+        self.slots.len() as u32
+    }
+
+    /// What every control shows between two calls: it fits its name, and where a degree is pending, a batch
+    /// of the fragment is out. It does nothing.
+    pub fn is_calm(&self)
+        ensures fits { Fits K.meaning self.now }
+        ensures calm { (f : ℕ) → f < length self.now.slots → IsDue (scans self.now.slots f) → ⊥ }
+    {
+        let _ = &self.history;
+    }
+
+    /// Where nothing is out, held, being collected or pending, and a fragment isn't finished, there is something
+    /// to do: `next_job` doesn't answer `Rest`. It does nothing.
+    pub fn goes_on(&self)
+        ensures { AreReleased self.now.slots → IsRest (run_of K.meaning) (reverse self.now.log) → ⊥ }
+    {
+        let _ = &self.history;
+    }
+
     /// The events so far, the earliest first. They are legal and leave nothing due, and the boards are
     /// what they say.
     pub fn history(&self) -> &[Event]
@@ -384,5 +425,28 @@ impl<K: RunName> Control<K> {
         ensures fits { Fits K.meaning self.now }
     {
         &self.history
+    }
+
+    /// The history, and the answers: where every fragment is finished, the values of the statements' last
+    /// fragments, in order of the statements; else none. It takes no memory.
+    pub fn into_end(self) -> (History, BuiltList)
+        ensures history { result.0 ≡ self.log }
+        ensures answers { AreAnswers K.meaning self (map (λ x. x.value) result.1) }
+        ensures fits { Fits K.meaning self }
+    {
+        let Control {
+            slots,
+            history,
+            finishes,
+            lasts,
+            answers,
+            ..
+        } = self;
+        let history = History::from_vec(history);
+        if (finishes as usize) < slots.len() {
+            return (history, Sequence::from_vec(answers));
+        }
+        let answers = values_where(slots, &lasts, answers);
+        (history, Sequence::from_vec(answers))
     }
 }

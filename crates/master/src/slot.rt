@@ -131,6 +131,17 @@ impl Slot {
         }
     }
 
+    /// The fragment's value, once it is finished.
+    pub fn into_value(self) -> Option<Arc<Built>>
+        ensures { option_map (λ x. x.value) result ≡ value_in self.stage }
+    {
+        let Slot { phase, .. } = self;
+        match phase {
+            Phase::Ended(value) => Some(value),
+            _ => None,
+        }
+    }
+
     pub fn load(&self) -> Load
         ensures { result ≡ self.now.load }
     {

@@ -1,4 +1,4 @@
-use Rattle.std.proofs.Common.{◌≡◌, ◌+◌, ◌-◌, ◌<◌, ◌≤◌, ◌++◌, ◌∷◌, [], sym, ◌∙◌, ap, subst, arith, List, ℕ, length, drop, refl, reverse, vec_len, vec_capacity, Option, Some, None, IfSome}
+use Rattle.std.proofs.Common.{◌≡◌, ◌+◌, ◌-◌, ◌<◌, ◌≤◌, ◌++◌, ◌∷◌, [], sym, ◌∙◌, ap, subst, arith, List, ℕ, length, map, drop, refl, reverse, vec_len, vec_capacity, Option, Some, None, IfSome}
 use Rattle.std.specs.List.{All}
 use Rattle.rows.specs.declared.plain.Machine.{Machine}
 use Rattle.rows.specs.declared.plain.Step.{Step}
@@ -16,6 +16,7 @@ use Rattle.master.specs.Gives.{AllGiven, AreTwo, CanTake, ready_in, running_in}
 use Rattle.master.specs.Kind.{Slotted}
 use Rattle.master.specs.Ledger.{IsKept}
 use Rattle.master.specs.Meaning.{Meaning, run_of}
+use Rattle.master.specs.Lasts.{last_flags}
 use Rattle.master.specs.Starts.{starts}
 use Rattle.master.proofs.Begins.{all_steps, begin_decides, begin_given, kept_begin, length_starts, only_begin, start_are, start_can, start_one, start_ordered, start_two}
 use Rattle.master.proofs.Finishes.{decided_as, written_back}
@@ -124,6 +125,7 @@ invariant_of-result g c =
     let items = only_begin c.in_ok-history.history.items c.push_reserved.new.self.items d c.in_ok-history.ensures.items c.push_reserved.ensures.items in
     rw back
     (kept_begin m c.push_reserved.new.self.items c.give-none.new.slots _ mach d c.give-none.result within formed machine told given' items refl refl refl c.requires.machine steps
+    (c.in_ok-lasts.ensures ∙ ap (λ (fs : List Fragment). last_flags fs) (c.items-2.ensures ∙ c.requires.fragments), ap (map (λ x. x.value)) c.in_ok-answers.ensures.items, c.in_ok-answers.ensures.len, (omega (arith, size, c.len-3.ensures, c.in_ok-answers.ensures.capacity)))
     (omega (arith, size, c.len.ensures, c.in_ok-running.ensures.capacity, c.decide-decision.ensures.running)) (omega (arith, size, c.len-2.ensures, c.in_ok-ready.ensures.capacity, c.decide-decision.ensures.ready)))
 
 pub returns-clause-fits : goal.returns-clause-fits

@@ -1,8 +1,8 @@
 use Rattle.std.proofs.Common.{◌≡◌, ◌+◌, ◌-◌, ◌<◌, ◌≤◌, ◌++◌, ◌∷◌, [], true, sym, ◌∙◌, ap, subst, arith, List, ℕ, length, refl, set, vec_len, vec_capacity, append-nil}
 use Rattle.rows.specs.declared.plain.Machine.{Machine}
 use Rattle.page_partition.specs.Scan.{out_of}
-use Rattle.adjust_protocol.specs.Moves.{MayClaim, Running, is_held}
-use Rattle.adjust_protocol.specs.Answers.{ClaimAnswer, claim_moves}
+use Rattle.adjust_protocol.specs.Moves.{Makes, MayClaim, Running, is_held}
+use Rattle.adjust_protocol.specs.Answers.{ClaimAnswer, claim_moves, settle_moves}
 use Rattle.adjust_protocol.specs.declared.answers.Settled.{Settled}
 use Rattle.history.specs.declared.event.Event.{Event}
 use Rattle.history.specs.declared.event.Event.TheVariants as event
@@ -13,7 +13,7 @@ use Rattle.master.specs.Content.{AreOuts}
 use Rattle.master.specs.Kind.{Slotted, scan_of}
 use Rattle.master.specs.Ledger.{Ledger, at, scans}
 use Rattle.master.proofs.Kept.{call_settle, looked, need_out, need_some}
-use Rattle.master.proofs.Happened.{answered, as_settled, cut_degree, cut_events, only_settle}
+use Rattle.master.proofs.Happened.{answered, made_at, as_settled, cut_degree, cut_events, only_settle}
 use Rattle.master.proofs.control.Control.settle.Goals as goal
 
 pub overflow_sub-self : goal.overflow_sub-self
@@ -83,5 +83,13 @@ returns-in_default g c =
       slots = ap (set c.self.inside.slots.items c.args.fragment) (as_settled c.self.inside.slots.items c.args.fragment c.args.role c.args.outputs c.settle-settled.result o c.settle-settled.new.self lt c.index_mut-slot.ensures.value c.settle-settled.ensures.moves c.settle-settled.ensures.rest)
           ∙ ap (λ (l : Ledger). settled_at l.slots c.args.fragment c.args.role c.args.outputs c.settle-settled.result) c.self.view_is;
       answer = answered c.args.self.now c.self.inside.history.items c.self.inside.slots.items c.args.fragment c.settle-settled.result o c.settle-settled.new.self c.self.view_is lt c.index_mut-slot.ensures.value c.settle-settled.ensures.answer;
+      moves = made_at c.args.self.now c.self.inside.history.items c.self.inside.slots.items c.args.fragment c.args.role (length c.args.outputs) c.settle-settled.result o c.settle-settled.new.self c.self.view_is lt c.index_mut-slot.ensures.value c.settle-settled.ensures.moves;
       fits = (invariant_of-self-in_default g c).fits;
     }
+
+pub returns-in-Cut-clause-moves : goal.returns-in-Cut-clause-moves
+returns-in-Cut-clause-moves g c =
+    let lt = subst (λ (l : Ledger). c.args.fragment < length l.slots) (sym c.self.view_is) c.requires.fragment in
+    let old = c.args.self.now.slots in
+    subst (λ (a : Settled). Makes (rule_by (at old c.args.fragment).by_entries) 64 (scans old c.args.fragment) (settle_moves (scans old c.args.fragment).asked c.args.role (length c.args.outputs) a) (scans (set c.self.inside.slots.items c.args.fragment c.settle-settled.new.self) c.args.fragment)) c.in-Cut.is
+    (made_at c.args.self.now c.self.inside.history.items c.self.inside.slots.items c.args.fragment c.args.role (length c.args.outputs) c.settle-settled.result c.index_mut-slot.result.now c.settle-settled.new.self c.self.view_is lt c.index_mut-slot.ensures.value c.settle-settled.ensures.moves)
