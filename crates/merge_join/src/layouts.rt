@@ -18,12 +18,9 @@ fn put_part(parts: &mut Vec<LayoutPart>, part: LayoutPart) -> Result<(), AllocEr
     Ok(())
 }
 
-// The parts of two layouts in ascending order of variable.
-pub(crate) fn merged_layout(
-    alloc: Global,
-    first: &Layout,
-    second: &Layout,
-) -> Result<Layout, AllocError>
+/// The layout of rows that are combined of rows of two layouts: the parts of both, in ascending order
+/// of variable where each layout's are. An error is want of memory.
+pub fn merged_layout(alloc: Global, first: &Layout, second: &Layout) -> Result<Layout, AllocError>
     ensures { IfOk result (λ both. both ≡ merged first.now second.now) }
 {
     let mut parts = second.copy(alloc)?.into_vec();

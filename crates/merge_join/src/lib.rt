@@ -10,4 +10,5 @@ mod slices;
 #[cfg(test)]
 mod tests;
 
+pub use layouts::merged_layout;
 pub use merging::merge_slice;

@@ -21,13 +21,13 @@ use Rattle.rows.specs.RowFields.{row_in}
 use Rattle.rel_meaning.specs.Expression.{Expression}
 use Rattle.plan_tree.specs.declared.fragment.Source.{Source}
 use Rattle.plan_tree.specs.declared.fragment.Source.TheVariants as source
-use Rattle.plan_tree.specs.Fragments.{EntryPlace, Stored, begun, entry_row, out, page_items, row_at, source_layout, value_at}
+use Rattle.plan_tree.specs.Fragments.{EntryPlace, Stored, begun, entry_row, page_items, position_rows, row_at, source_layout, value_at}
 use Rattle.plan_tree.specs.Inputs.{input_values, probe_inputs, source_inputs}
-use Rattle.plan_tree.specs.Pieces.{Piece, Probing}
+use Rattle.plan_tree.specs.Pieces.{Ending, Piece, Probing}
 use Rattle.plan_tree.specs.Rows.{kept}
 use Rattle.plan_tree.specs.Combining.{merged}
 use Rattle.plan_tree.specs.WellFormed.{AreProbes, IsPiece, IsSource}
-use Rattle.pipeline.specs.Ends.{CanFinish, IsUnfolded, finished}
+use Rattle.pipeline.specs.Ends.{CanFinish, IsPartOf, led_to_end}
 use Rattle.pipeline.specs.Entries.{slot_rows}
 use Rattle.pipeline.specs.Images.{HoldsPlaces, Image, StoresHeap, place_of}
 use Rattle.pipeline.specs.Positions.{AreInputs, FitInputs, IsFormed}
@@ -39,22 +39,21 @@ last_is : (before : List Piece) (layout : List LayoutPart) (ps : List Probing) (
 last_is before layout [] last h = sym h
 last_is before layout (p ∷ ps) last h = last_is before p.layout ps last h.1
 
-pub can_finish : (piece : Piece) (tables : List Table) → IsFormed piece → FitProbes (source_layout piece.pipe.source piece.pipe.columns) piece.pipe.probes tables → IsUnfolded piece.end
+pub can_finish : (piece : Piece) (tables : List Table) → IsFormed piece → FitProbes (source_layout piece.pipe.source piece.pipe.columns) piece.pipe.probes tables
     → CanFinish (source_layout piece.pipe.source piece.pipe.columns) piece tables
-can_finish piece tables formed fits unfolded = record {
+can_finish piece tables formed fits = record {
   probes = can_all formed.before (source_layout piece.pipe.source piece.pipe.columns) piece.pipe.probes piece.layout tables formed.is.probes fits;
   last = last_is formed.before (source_layout piece.pipe.source piece.pipe.columns) piece.pipe.probes piece.layout formed.is.probes;
   end = formed.is.end;
-  unfolded = unfolded;
 }
 
--- what a position gives, by the source
-pub out_at : (stored : Stored) (values : List (List (List Value))) (piece : Piece) (p : ℕ) (s : Source) → piece.pipe.source ≡ s →
-    out stored values piece p ≡ finished values piece (source_layout s piece.pipe.columns) (kept (source_layout s piece.pipe.columns) piece.pipe.tests (begun stored values s piece.pipe.columns p))
-out_at stored values piece p s is =
-    subst (λ s. out stored values piece p ≡ finished values piece (source_layout s piece.pipe.columns) (kept (source_layout s piece.pipe.columns) piece.pipe.tests (begun stored values s piece.pipe.columns p))) is refl
+-- the rows of a position, by the source
+pub rows_at : (stored : Stored) (values : List (List (List Value))) (piece : Piece) (p : ℕ) (s : Source) → piece.pipe.source ≡ s →
+    led_to_end values piece (source_layout s piece.pipe.columns) (kept (source_layout s piece.pipe.columns) piece.pipe.tests (begun stored values s piece.pipe.columns p)) ≡ position_rows stored values piece p
+rows_at stored values piece p s is =
+    subst (λ s. led_to_end values piece (source_layout s piece.pipe.columns) (kept (source_layout s piece.pipe.columns) piece.pipe.tests (begun stored values s piece.pipe.columns p)) ≡ position_rows stored values piece p) is refl
 
-module _ (piece : Piece) (tables : List Table) (formed : IsFormed piece) (inputs : AreInputs piece.pipe tables) (unfolded : IsUnfolded piece.end) where
+module _ (piece : Piece) (tables : List Table) (formed : IsFormed piece) (inputs : AreInputs piece.pipe tables) where
   fits_at : (s : Source) → piece.pipe.source ≡ s → FitInputs s (source_layout piece.pipe.source piece.pipe.columns) piece.pipe.probes tables
   fits_at s is = subst (λ s. FitInputs s (source_layout piece.pipe.source piece.pipe.columns) piece.pipe.probes tables) is inputs
 
@@ -62,13 +61,13 @@ module _ (piece : Piece) (tables : List Table) (formed : IsFormed piece) (inputs
   moved s ts is can = subst (λ s. CanFinish (source_layout s piece.pipe.columns) piece ts) is can
 
   pub can_one : piece.pipe.source ≡ source.One → CanFinish [] piece tables
-  can_one is = moved source.One tables is (can_finish piece tables formed (fits_at source.One is) unfolded)
+  can_one is = moved source.One tables is (can_finish piece tables formed (fits_at source.One is))
 
   pub can_heap : (var file : ℕ) → piece.pipe.source ≡ source.Heap var file → CanFinish (scanned var piece.pipe.columns) piece tables
-  can_heap var file is = moved (source.Heap var file) tables is (can_finish piece tables formed (fits_at (source.Heap var file) is) unfolded)
+  can_heap var file is = moved (source.Heap var file) tables is (can_finish piece tables formed (fits_at (source.Heap var file) is))
 
   pub can_index : (var : ℕ) (index : KeyIndex) (heap_file : ℕ) (interval : Interval) → piece.pipe.source ≡ source.Index var index heap_file interval → CanFinish (scanned var piece.pipe.columns) piece tables
-  can_index var index heap_file interval is = moved (source.Index var index heap_file interval) tables is (can_finish piece tables formed (fits_at (source.Index var index heap_file interval) is) unfolded)
+  can_index var index heap_file interval is = moved (source.Index var index heap_file interval) tables is (can_finish piece tables formed (fits_at (source.Index var index heap_file interval) is))
 
   merged_inputs : (left right : ℕ) (keys : List KeyPair) (first second : List LayoutPart) (ts : List Table) → FitInputs (source.Merge left right keys first second) (source_layout piece.pipe.source piece.pipe.columns) piece.pipe.probes ts →
       FitProbes (source_layout piece.pipe.source piece.pipe.columns) piece.pipe.probes (drop 2 ts)
@@ -79,7 +78,7 @@ module _ (piece : Piece) (tables : List Table) (formed : IsFormed piece) (inputs
   pub can_merge : (left right : ℕ) (keys : List KeyPair) (first second : List LayoutPart) → piece.pipe.source ≡ source.Merge left right keys first second → CanFinish (merged first second) piece (drop 2 tables)
   can_merge left right keys first second is =
       let s = source.Merge left right keys first second in
-      moved s (drop 2 tables) is (can_finish piece (drop 2 tables) formed (merged_inputs left right keys first second tables (fits_at s is)) unfolded)
+      moved s (drop 2 tables) is (can_finish piece (drop 2 tables) formed (merged_inputs left right keys first second tables (fits_at s is)))
 
 -- the values of the probes' inputs, in order
 pub probe_values : (values : List (List (List Value))) (ps : List Probing) (ts : List Table) → map (value_at values) (probe_inputs ps) ≡ map (λ (t : Table). rows_of t.lists) ts → AreValues values ps ts
@@ -179,3 +178,7 @@ merge_all f values left right ps (u ∷ v ∷ xs) x y some a b e =
 pub merge_inputs : (values : List (List (List Value))) (piece : Piece) (ts : List Table) (left right : ℕ) (keys : List KeyPair) (first second : List LayoutPart) → input_values values piece ≡ map (λ (t : Table). rows_of t.lists) ts →
     piece.pipe.source ≡ source.Merge left right keys first second → map (value_at values) (left ∷ right ∷ probe_inputs piece.pipe.probes) ≡ map (λ (t : Table). rows_of t.lists) ts
 merge_inputs values piece ts left right keys first second are is = values_at values piece ts are (source.Merge left right keys first second) is
+
+-- a part of the same rows
+pub part_moved : (end : Ending) (rows same found : List (List Value)) → rows ≡ same → IsPartOf end rows found → IsPartOf end same found
+part_moved end rows same found e part = subst (λ rs. IsPartOf end rs found) e part

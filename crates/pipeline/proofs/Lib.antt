@@ -11,3 +11,6 @@ pub mod Inputs
 pub mod Merging
 pub mod Formed
 pub mod Kept
+pub mod Folded
+pub mod Parts
+pub mod Fitting

@@ -5,3 +5,4 @@ pub mod Taking
 pub mod Probes
 pub mod Ends
 pub mod Positions
+pub mod KeptValues

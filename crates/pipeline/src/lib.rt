@@ -9,7 +9,6 @@ mod entries;
 mod finishing;
 mod heap;
 mod laws;
-mod layouts;
 mod page_scan;
 mod position;
 mod probe;
@@ -18,6 +17,6 @@ mod row_testing;
 mod testing;
 
 pub use end::end_value;
-pub use laws::image_laws;
+pub use laws::{image_laws, kept_laws};
 pub use position::run_position;
 pub use testing::meets;

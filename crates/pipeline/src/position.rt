@@ -12,9 +12,9 @@ ghost use Rattle.plan_tree.specs.WellFormed.{AreTests, HasShape};
 ghost use Rattle.hash_join.specs.Table.{Table, rows_of};
 ghost use Rattle.merge_join.specs.Sides.{IsSide, left_columns, right_columns};
 ghost use Rattle.plan_tree.specs.Combining.{AreApart, IsOrdered, merged};
-ghost use Rattle.plan_tree.specs.Fragments.{Stored, matched, merge_slices, out, slice_of};
+ghost use Rattle.plan_tree.specs.Fragments.{Stored, matched, merge_slices, out, position_rows, slice_of};
 ghost use Rattle.plan_tree.specs.Rows.{kept};
-ghost use Rattle.pipeline.specs.Ends.{CanFinish, IsUnfolded, finished};
+ghost use Rattle.pipeline.specs.Ends.{CanFinish, IsPartOf, led_to_end};
 ghost use Rattle.pipeline.specs.Entries.{EntryCause, IsEntryFine, slot_rows};
 ghost use Rattle.pipeline.specs.Images.{Image, IsHeapFile, StoresRead};
 ghost use Rattle.pipeline.specs.Positions.{AreInputs, HasFiles, IsFormed, PositionCause, ReadsFine};
@@ -24,10 +24,9 @@ ghost use Rattle.pipeline.specs.Scans.{ScanCause, passing, scan_fault, scanned};
 use crate::entries::run_entry;
 use crate::finishing::{finish_rows, kept_rows, scanned_layout};
 use crate::heap::run_heap;
-use crate::layouts::merged_layout;
 use hash_join::{Built, Inputs};
 use heap_page::{FetchErr, PageSource};
-use merge_join::merge_slice;
+use merge_join::{merge_slice, merged_layout};
 use plan_tree::{Fragment, Source};
 use rows::{KeyIndex, KeyPairList, Layout, Row, Rows};
 use std::alloc::{AllocError, Global};
@@ -49,10 +48,11 @@ fn run_page<P: PageSource>(
     ensures whole { P.whole pages.new ≡ P.whole pages.old }
     ensures counts { (d : ℕ) → P.faults pages.old d ≤ P.faults pages.new d }
     ensures shape { IfOk result (HasShape fragment.now.layout (ending_of fragment.now.end)) }
+    ensures part { IfOk result (λ found. (rows : List (List Value)) × IsPartOf (ending_of fragment.now.end) rows found) }
     ensures fine { (image : Image) → P.image (P.whole pages.old) ≡ Some image → IfOk result (λ rows. scan_fault fragment.now.pipe.columns file page (image file page) ≡ None) }
     ensures told { (image : Image) (values : List (List (List Value))) → P.image (P.whole pages.old) ≡ Some image → AreValues values (map probing_of fragment.now.pipe.probes) (map (λ x. x.value) inputs.now) →
-        IfOk result (λ rows. rows ≡ finished values (piece_of fragment.now) (scanned var fragment.now.pipe.columns)
-        (passing (scanned var fragment.now.pipe.columns) fragment.now.pipe.columns (map expression_of fragment.now.pipe.tests) (items_of (image file page)))) }
+        IfOk result (IsPartOf (ending_of fragment.now.end) (led_to_end values (piece_of fragment.now) (scanned var fragment.now.pipe.columns)
+        (passing (scanned var fragment.now.pipe.columns) fragment.now.pipe.columns (map expression_of fragment.now.pipe.tests) (items_of (image file page))))) }
     ensures err { IfErr result (ScanCause fragment.now.pipe.columns (P.image (P.whole pages.old)) (P.drives (P.whole pages.old)) (P.faults pages.old) (P.faults pages.new) file page) }
 {
     let rows = run_heap(alloc, &fragment.pipe, var, file, page, pages)?;
@@ -80,11 +80,12 @@ fn run_index<P: PageSource>(
     ensures whole { P.whole pages.new ≡ P.whole pages.old }
     ensures counts { (d : ℕ) → P.faults pages.old d ≤ P.faults pages.new d }
     ensures shape { IfOk result (HasShape fragment.now.layout (ending_of fragment.now.end)) }
+    ensures part { IfOk result (λ found. (rows : List (List Value)) × IsPartOf (ending_of fragment.now.end) rows found) }
     ensures fine { (image : Image) → P.image (P.whole pages.old) ≡ Some image → IfOk result (λ rows. IsEntryFine fragment.now.pipe.columns index.now image heap_file number) }
     ensures told { (image : Image) (entries : List KeyEntry) (e : KeyEntry) (values : List (List (List Value))) → P.image (P.whole pages.old) ≡ Some image → HoldsIndex index.now (image index.now.file) entries → slice_get entries number ≡ Some e →
         AreValues values (map probing_of fragment.now.pipe.probes) (map (λ x. x.value) inputs.now) →
-        IfOk result (λ rows. rows ≡ finished values (piece_of fragment.now) (scanned var fragment.now.pipe.columns)
-        (slot_rows (scanned var fragment.now.pipe.columns) fragment.now.pipe.columns (map expression_of fragment.now.pipe.tests) (items_of (image heap_file e.page)) e.slot)) }
+        IfOk result (IsPartOf (ending_of fragment.now.end) (led_to_end values (piece_of fragment.now) (scanned var fragment.now.pipe.columns)
+        (slot_rows (scanned var fragment.now.pipe.columns) fragment.now.pipe.columns (map expression_of fragment.now.pipe.tests) (items_of (image heap_file e.page)) e.slot))) }
     ensures err { IfErr result (EntryCause fragment.now.pipe.columns index.now (P.image (P.whole pages.old)) (P.drives (P.whole pages.old)) (P.faults pages.old) (P.faults pages.new) heap_file number) }
 {
     let rows = run_entry(alloc, &fragment.pipe, var, index, heap_file, number, pages)?;
@@ -97,8 +98,9 @@ fn run_one(alloc: Global, fragment: &Fragment, inputs: &[Arc<Built>]) -> Result<
     requires tests { AreTests [] (map expression_of fragment.now.pipe.tests) }
     requires can { CanFinish [] (piece_of fragment.now) (map (λ x. x.value) inputs.now) }
     ensures shape { IfOk result (HasShape fragment.now.layout (ending_of fragment.now.end)) }
+    ensures part { IfOk result (λ found. (rows : List (List Value)) × IsPartOf (ending_of fragment.now.end) rows found) }
     ensures output { (values : List (List (List Value))) → AreValues values (map probing_of fragment.now.pipe.probes) (map (λ x. x.value) inputs.now) →
-        IfOk result (λ rows. rows ≡ finished values (piece_of fragment.now) [] (kept [] (map expression_of fragment.now.pipe.tests) ([] ∷ []))) }
+        IfOk result (IsPartOf (ending_of fragment.now.end) (led_to_end values (piece_of fragment.now) [] (kept [] (map expression_of fragment.now.pipe.tests) ([] ∷ [])))) }
 {
     let layout = Layout::new(alloc);
     let mut row = Vec::new(alloc);
@@ -129,9 +131,10 @@ fn run_merge(
     requires apart { AreApart first.now second.now }
     requires slice { slice < merge_slices }
     ensures shape { IfOk result (HasShape fragment.now.layout (ending_of fragment.now.end)) }
+    ensures part { IfOk result (λ found. (rows : List (List Value)) × IsPartOf (ending_of fragment.now.end) rows found) }
     ensures output { (values : List (List (List Value))) → AreValues values (map probing_of fragment.now.pipe.probes) (map (λ x. x.value) inputs.now) →
-        IfOk result (λ rows. rows ≡ finished values (piece_of fragment.now) (merged first.now second.now)
-        (kept (merged first.now second.now) (map expression_of fragment.now.pipe.tests) (matched first.now second.now keys.now (slice_of slice (rows_of left.now.lists)) (rows_of right.now.lists)))) }
+        IfOk result (IsPartOf (ending_of fragment.now.end) (led_to_end values (piece_of fragment.now) (merged first.now second.now)
+        (kept (merged first.now second.now) (map expression_of fragment.now.pipe.tests) (matched first.now second.now keys.now (slice_of slice (rows_of left.now.lists)) (rows_of right.now.lists))))) }
 {
     let layout = merged_layout(alloc, first, second)?;
     let rows = merge_slice(alloc, left, right, first, second, keys, slice)?;
@@ -139,13 +142,8 @@ fn run_merge(
     finish_rows(alloc, fragment, &layout, inputs, rows)
 }
 
-/// What a position of a fragment gives: the rows of its page, entry or slice, or the one empty row, that pass the tests of
-/// the pipe, each with the rows of the probes' inputs that have its keys, as the end takes them. The fragment is well formed
-/// and folds no groups, and its files are there. There is an input for each that it reads, in order: the two sides of a merge
-/// come first. Over told files it gives what the definition of a fragment says. `DriveFault` comes only where the drive's
-/// count rises. `BadPage` comes exactly where a fetch answers it, or where a page that is fetched breaks a rule, with the
-/// first one: of a heap page rule 9 is that each item used is a row of the columns, and that the slot of an entry is there.
-pub fn run_position<P: PageSource>(
+// What a position gives, by the source.
+fn run_source<P: PageSource>(
     alloc: Global,
     fragment: &Fragment,
     position: u32,
@@ -153,17 +151,17 @@ pub fn run_position<P: PageSource>(
     pages: &mut P,
 ) -> Result<Rows, FetchErr>
     requires formed { IsFormed (piece_of fragment.now) }
-    requires unfolded { IsUnfolded (ending_of fragment.now.end) }
     requires position { position < fragment.now.positions }
     requires inputs { AreInputs (piping_of fragment.now.pipe) (map (λ x. x.value) inputs.now) }
     requires files { HasFiles (P.files (P.whole pages.old)) fragment.now.positions fragment.now.pipe.source }
     ensures whole { P.whole pages.new ≡ P.whole pages.old }
     ensures counts { (d : ℕ) → P.faults pages.old d ≤ P.faults pages.new d }
     ensures shape { IfOk result (HasShape fragment.now.layout (ending_of fragment.now.end)) }
+    ensures part { IfOk result (λ found. (rows : List (List Value)) × IsPartOf (ending_of fragment.now.end) rows found) }
     ensures fine { (image : Image) → P.image (P.whole pages.old) ≡ Some image → IfOk result (λ rows. ReadsFine fragment.now.pipe.source fragment.now.pipe.columns image position) }
-    ensures output { (image : Image) (stored : Stored) (values : List (List (List Value))) → P.image (P.whole pages.old) ≡ Some image → StoresRead image stored fragment.now.positions fragment.now.pipe.source →
+    ensures rows { (image : Image) (stored : Stored) (values : List (List (List Value))) → P.image (P.whole pages.old) ≡ Some image → StoresRead image stored fragment.now.positions fragment.now.pipe.source →
         input_values values (piece_of fragment.now) ≡ map (λ (t : Table). rows_of t.lists) (map (λ x. x.value) inputs.now) →
-        IfOk result (λ rows. rows ≡ out stored values (piece_of fragment.now) position) }
+        IfOk result (IsPartOf (ending_of fragment.now.end) (position_rows stored values (piece_of fragment.now) position)) }
     ensures err { IfErr result (PositionCause fragment.now.pipe.source fragment.now.pipe.columns (P.image (P.whole pages.old)) (P.drives (P.whole pages.old)) (P.faults pages.old) (P.faults pages.new) position) }
 {
     match &fragment.pipe.source {
@@ -220,4 +218,38 @@ pub fn run_position<P: PageSource>(
             )?)
         }
     }
+}
+
+/// What a position of a fragment gives: the rows of its page, entry or slice, or the one empty row, that pass the tests of
+/// the pipe, each with the rows of the probes' inputs that have its keys, as the end takes them; an end that folds groups
+/// takes the partial of the targets' values. The fragment is well formed and its files are there. There is an input for each
+/// that it reads, in order: the two sides of a merge come first. Over told files it gives what the definition of a fragment
+/// says. `DriveFault` comes only where the drive's count rises. `BadPage` comes exactly where a fetch answers it, or where a
+/// page that is fetched breaks a rule, with the first one: of a heap page rule 9 is that each item used is a row of the
+/// columns, and that the slot of an entry is there.
+pub fn run_position<P: PageSource>(
+    alloc: Global,
+    fragment: &Fragment,
+    position: u32,
+    inputs: &Inputs,
+    pages: &mut P,
+) -> Result<Rows, FetchErr>
+    requires formed { IsFormed (piece_of fragment.now) }
+    requires position { position < fragment.now.positions }
+    requires inputs { AreInputs (piping_of fragment.now.pipe) (map (λ x. x.value) inputs.now) }
+    requires files { HasFiles (P.files (P.whole pages.old)) fragment.now.positions fragment.now.pipe.source }
+    ensures whole { P.whole pages.new ≡ P.whole pages.old }
+    ensures counts { (d : ℕ) → P.faults pages.old d ≤ P.faults pages.new d }
+    ensures shape { IfOk result (HasShape fragment.now.layout (ending_of fragment.now.end)) }
+    ensures part { IfOk result (λ found. (rows : List (List Value)) × IsPartOf (ending_of fragment.now.end) rows found) }
+    ensures fine { (image : Image) → P.image (P.whole pages.old) ≡ Some image → IfOk result (λ rows. ReadsFine fragment.now.pipe.source fragment.now.pipe.columns image position) }
+    ensures output { (image : Image) (stored : Stored) (values : List (List (List Value))) → P.image (P.whole pages.old) ≡ Some image → StoresRead image stored fragment.now.positions fragment.now.pipe.source →
+        input_values values (piece_of fragment.now) ≡ map (λ (t : Table). rows_of t.lists) (map (λ x. x.value) inputs.now) →
+        IfOk result (λ rows. rows ≡ out stored values (piece_of fragment.now) position) }
+    ensures rows { (image : Image) (stored : Stored) (values : List (List (List Value))) → P.image (P.whole pages.old) ≡ Some image → StoresRead image stored fragment.now.positions fragment.now.pipe.source →
+        input_values values (piece_of fragment.now) ≡ map (λ (t : Table). rows_of t.lists) (map (λ x. x.value) inputs.now) →
+        IfOk result (IsPartOf (ending_of fragment.now.end) (position_rows stored values (piece_of fragment.now) position)) }
+    ensures err { IfErr result (PositionCause fragment.now.pipe.source fragment.now.pipe.columns (P.image (P.whole pages.old)) (P.drives (P.whole pages.old)) (P.faults pages.old) (P.faults pages.new) position) }
+{
+    run_source(alloc, fragment, position, inputs, pages)
 }
