@@ -22,7 +22,7 @@ use Rattle.plan_tree.specs.Fragments.{added, source_layout}
 use Rattle.plan_tree.specs.Inputs.{inputs_of, probe_inputs, source_inputs}
 use Rattle.plan_tree.specs.Pieces.{Ending, Piece, Probing, building, answering, folding, sorting}
 use Rattle.plan_tree.specs.WellFormed.{AnswersColumns, AreProbes, AreWellFormed, HasInput, IsAnswered, IsBuilt, IsEnd, IsMerge, IsPiece, IsProbe, IsSorted, IsSource, ReadsAnswer, ReadsBuilt}
-use Rattle.fragments.specs.Folds.{AreUnfolded, FitFolds, FitsFold, IsUnfolded, fold_at, folded, folded_end}
+use Rattle.fragments.specs.Folds.{AreUnfolded, MayBeFolded, MayEndFolded, IsUnfolded, fold_at, folded, folded_end}
 use Rattle.fragments.proofs.Standing.{all_at}
 
 -- ---- ends that are no answers stay
@@ -41,7 +41,7 @@ sort_kept (Some fold) (answering targets unique others) keys h = cc
 sort_kept (Some fold) (folding targets other) keys h = cc
 sort_kept (Some fold) (sorting others) keys h = h
 
-pub end_kept : (layout : List LayoutPart) (o : Option Fold) (e : Ending) → IsEnd layout e → FitsFold layout o e → IsEnd layout (folded_end o e)
+pub end_kept : (layout : List LayoutPart) (o : Option Fold) (e : Ending) → IsEnd layout e → MayEndFolded layout o e → IsEnd layout (folded_end o e)
 end_kept layout None e h fits = h
 end_kept layout (Some fold) (building keys) h fits = h
 end_kept layout (Some fold) (answering targets unique keys) h fits = fits.0
@@ -110,7 +110,7 @@ module _ (folds : List (Option FoldPlan)) where
   probes_part pieces (source.Index var index heap interval) rest h = h
   probes_part pieces (source.Merge left right keys left_layout right_layout) rest h = h.1.1
 
-  piece_kept : (before : List Piece) (piece : Piece) → IsPiece before piece → AreUnfolded folds before (inputs_of piece) → FitsFold piece.layout (fold_at folds piece.statement) piece.end →
+  piece_kept : (before : List Piece) (piece : Piece) → IsPiece before piece → AreUnfolded folds before (inputs_of piece) → MayEndFolded piece.layout (fold_at folds piece.statement) piece.end →
       IsPiece (map F before) (F piece)
   piece_kept before piece is stays fits = record {
     source = source_kept before piece.pipe.source piece.pipe.columns piece.positions piece.pages is.source;
@@ -134,7 +134,7 @@ module _ (folds : List (Option FoldPlan)) where
   of_map None x h = cc
   of_map (Some p) x h = (p, refl, (let e : F p ≡ x = cc in e))
 
-  pub well_formed : (pieces : List Piece) → AreWellFormed pieces → FitFolds folds pieces → AreWellFormed (map F pieces)
+  pub well_formed : (pieces : List Piece) → AreWellFormed pieces → MayBeFolded folds pieces → AreWellFormed (map F pieces)
   well_formed pieces formed fit = record {
     few = subst (λ (n : ℕ). n ≤ 1000) (sym (length-map pieces F)) formed.few;
     statements = subst (λ (s : List ℕ). Ascends nat_cmp s) (sym (statements_kept pieces)) formed.statements;
@@ -144,12 +144,12 @@ module _ (folds : List (Option FoldPlan)) where
     here number p at = subst (λ (before : List Piece). IsPiece before (F p)) (sym (take-map F number pieces))
         (piece_kept (take number pieces) p (formed.each number p at)
         (earlier number pieces (inputs_of p) (all_at (λ (q : Piece). AreUnfolded folds pieces (inputs_of q)) pieces number p fit.unread at))
-        (all_at (λ (q : Piece). FitsFold q.layout (fold_at folds q.statement) q.end) pieces number p fit.each at))
+        (all_at (λ (q : Piece). MayEndFolded q.layout (fold_at folds q.statement) q.end) pieces number p fit.each at))
 
     each : (number : ℕ) (x : Piece) → slice_get (map F pieces) number ≡ Some x → IsPiece (take number (map F pieces)) x
     each number x h =
         let found = of_map (slice_get pieces number) x (sym (slice_get-map F pieces number) ∙ h) in
         subst (λ (y : Piece). IsPiece (take number (map F pieces)) y) found.2 (here number found.0 found.1)
 
-pub still_formed : (folds : List (Option FoldPlan)) (pieces more : List Piece) → more ≡ map (folded folds) pieces → AreWellFormed pieces → FitFolds folds pieces → AreWellFormed more
+pub still_formed : (folds : List (Option FoldPlan)) (pieces more : List Piece) → more ≡ map (folded folds) pieces → AreWellFormed pieces → MayBeFolded folds pieces → AreWellFormed more
 still_formed folds pieces more e formed fit = subst AreWellFormed (sym e) (well_formed folds pieces formed fit)

@@ -32,7 +32,7 @@ use Rattle.plan_tree.proofs.Typing.{get_left, get_right}
 use Rattle.seq_optimizer.specs.declared.stats.VarStats.{VarStats}
 use Rattle.kept_relations.specs.declared.kept.Kept.{Kept}
 use Rattle.kept_answers.specs.KeptAnswers.{AscendFrom, answers_of, columns_behind, kept_of, layout_in}
-use Rattle.fragments.specs.Folds.{AreUnfolded, FitFolds, FitsFold, IsUnfolded, fold_at, folded, folded_end, folded_value, folded_values, value_folded}
+use Rattle.fragments.specs.Folds.{AreUnfolded, MayBeFolded, MayEndFolded, IsUnfolded, fold_at, folded, folded_end, folded_value, folded_values, value_folded}
 use Rattle.fragments.specs.FoldedScripts.{FoldQueries, IsFoldOf, MeanFolded, folded_from, rows_folded}
 use Rattle.fragments.specs.Homes.{Known}
 use Rattle.fragments.specs.Cuts.{Cut, Facts, closed, cut_query, cut_tree, left_sort, right_sort, tree_layout}
@@ -75,7 +75,7 @@ module _ (folds : List (Option FoldPlan)) where
   F = folded folds
 
   abbrev FitsEach : Piece → Type 0
-  FitsEach piece = FitsFold piece.layout (fold_at folds piece.statement) piece.end
+  FitsEach piece = MayEndFolded piece.layout (fold_at folds piece.statement) piece.end
 
   module _ (before more : List Piece) where
     input_unread : (number : ℕ) (P : Piece → Type 0) → ((x : Piece) → P (F x) → IsUnfolded folds x) → HasInput (map F before) number P →
@@ -135,7 +135,7 @@ module _ (folds : List (Option FoldPlan)) where
   sort_same None keys = refl
   sort_same (Some fold) keys = refl
 
-  build_fits : (layout : List LayoutPart) (o : Option Fold) (keys : List ColumnRef) → FitsFold layout o (building keys)
+  build_fits : (layout : List LayoutPart) (o : Option Fold) (keys : List ColumnRef) → MayEndFolded layout o (building keys)
   build_fits layout None keys = tt
   build_fits layout (Some fold) keys = tt
 
@@ -171,11 +171,11 @@ module _ (folds : List (Option FoldPlan)) where
         let rest = same_append cb.before (pb ∷ []) (pb ∷ []) (tree_same m b) (λ i. right i ∷ []) in
         same_append ca.before (pa ∷ (cb.before ++ pb ∷ [])) _ (tree_same n a) (λ i. left i ∷ rest i)
 
-    left_fits : (a : Shape) (keys : List KeyPair) (o : Option Fold) → FitsFold (tree_layout facts a) o (left_sort facts a keys)
+    left_fits : (a : Shape) (keys : List KeyPair) (o : Option Fold) → MayEndFolded (tree_layout facts a) o (left_sort facts a keys)
     left_fits a keys None = tt
     left_fits a keys (Some fold) = tt
 
-    right_fits : (b : Shape) (keys : List KeyPair) (o : Option Fold) → FitsFold (tree_layout facts b) o (right_sort facts b keys)
+    right_fits : (b : Shape) (keys : List KeyPair) (o : Option Fold) → MayEndFolded (tree_layout facts b) o (right_sort facts b keys)
     right_fits b keys None = tt
     right_fits b keys (Some fold) = tt
 
@@ -216,7 +216,7 @@ module _ (folds : List (Option FoldPlan)) where
       same_targets : target_types (tree_layout facts p.tree) p.query.targets ≡ target_types (layout_in columns p.query) p.query.targets
       same_targets = target_types_here known table files lasts columns p ready
 
-      fits : (fold : Option Fold) → IfSome fold (IsFoldOf columns p.query (kept_of known.kept (length lasts))) → FitsFold (tree_layout facts p.tree) fold (answering p.query.targets p.query.unique p.query.keys)
+      fits : (fold : Option Fold) → IfSome fold (IsFoldOf columns p.query (kept_of known.kept (length lasts))) → MayEndFolded (tree_layout facts p.tree) fold (answering p.query.targets p.query.unique p.query.keys)
       fits None h = tt
       fits (Some fold) h =
           let is = h.folded in (
@@ -337,7 +337,7 @@ module _ (folds : List (Option FoldPlan)) where
 
 -- folds of the queries of a script fit its fragments
 pub script_fit : (known : Known) (table : List (List VarStats)) (ps : List Planned) (folds : List (Option FoldPlan)) → MayCut known table ps →
-    FoldQueries (catalog_columns known) known.kept folds 0 (map (λ (p : Planned). p.query) ps) → FitFolds folds (cut_plans known table ps)
+    FoldQueries (catalog_columns known) known.kept folds 0 (map (λ (p : Planned). p.query) ps) → MayBeFolded folds (cut_plans known table ps)
 script_fit known table ps folds may fold =
     let ready = all_ready known table ps may in
     record {

@@ -17,14 +17,14 @@ use Rattle.plan_tree.specs.Inputs.{input_values, inputs_of, with_numbered_inputs
 use Rattle.plan_tree.specs.Pieces.{Ending, Piece, building, answering, folding, sorting}
 use Rattle.plan_tree.proofs.InputValues.{value_same}
 use Rattle.plan_tree.proofs.Typing.{get_left}
-use Rattle.fragments.specs.Folds.{AreUnfolded, FitFolds, FitsFold, IsUnfolded, fold_at, folded, folded_end, folded_value, folded_values, value_folded}
+use Rattle.fragments.specs.Folds.{AreUnfolded, MayBeFolded, MayEndFolded, IsUnfolded, fold_at, folded, folded_end, folded_value, folded_values, value_folded}
 
 -- a partial doesn't rest on the order of the rows
 of_arranged : (fold : Fold) (rows : List (List Value)) → partial fold rows ≡ partial fold (arranged false [] rows)
 of_arranged fold rows = same_partial fold rows (arranged false [] rows) (λ z. sym (occurrences-sort (row_total []) z rows))
 
 -- all rows of a fragment, whose end is folded
-end_value : (layout : List LayoutPart) (o : Option Fold) (e : Ending) → FitsFold layout o e → (at : ℕ → List (List Value)) (numbers : List ℕ) →
+end_value : (layout : List LayoutPart) (o : Option Fold) (e : Ending) → MayEndFolded layout o e → (at : ℕ → List (List Value)) (numbers : List ℕ) →
     ended (folded_end o e) (flat_map (λ p. projected (folded_end o e) layout (at p)) numbers) ≡ value_folded o e (ended e (flat_map (λ p. projected e layout (at p)) numbers))
 end_value layout None e fits at numbers = refl
 end_value layout (Some fold) (building keys) fits at numbers = refl
@@ -71,7 +71,7 @@ module _ (folds : List (Option FoldPlan)) where
 
   module _ (stored : Stored) where
     one_value : (before : List Piece) (values : List (List (List Value))) (p : Piece) → length before ≡ length values →
-        AreUnfolded folds before (inputs_of p) → FitsFold p.layout (fold_at folds p.statement) p.end →
+        AreUnfolded folds before (inputs_of p) → MayEndFolded p.layout (fold_at folds p.statement) p.end →
         value_of stored (folded_values folds before values) (folded folds p) ≡ folded_value folds p (value_of stored values p)
     one_value before values p same stays fits =
         end_value p.layout (fold_at folds p.statement) p.end fits (piped stored (folded_values folds before values) p.pipe) (range_with_len 0 p.positions)
@@ -95,7 +95,7 @@ module _ (folds : List (Option FoldPlan)) where
       left (y ∷ ys) (suc k) x at = left ys k x at
 
     all_values : (before : List Piece) (values : List (List (List Value))) (pieces : List Piece) → length before ≡ length values →
-        AllByRecursion (λ (p : Piece). FitsFold p.layout (fold_at folds p.statement) p.end) pieces → AllByRecursion (λ (p : Piece). AreUnfolded folds (before ++ pieces) (inputs_of p)) pieces →
+        AllByRecursion (λ (p : Piece). MayEndFolded p.layout (fold_at folds p.statement) p.end) pieces → AllByRecursion (λ (p : Piece). AreUnfolded folds (before ++ pieces) (inputs_of p)) pieces →
         values_after stored (folded_values folds before values) (map (folded folds) pieces) ≡ folded_values folds (before ++ pieces) (values_after stored values pieces)
     all_values before values [] same fits stays = ap (λ (ps : List Piece). folded_values folds ps values) (sym (append-nil before))
     all_values before values (p ∷ ps) same fits stays =
@@ -109,8 +109,8 @@ module _ (folds : List (Option FoldPlan)) where
         ∙ ap (λ (all : List Piece). folded_values folds all (values_after stored (values ++ v ∷ []) ps)) joined
 
     -- the values of the fragments, by those of the same fragments without folds
-    pub values_folded : (pieces : List Piece) → FitFolds folds pieces → values_of stored (map (folded folds) pieces) ≡ folded_values folds pieces (values_of stored pieces)
+    pub values_folded : (pieces : List Piece) → MayBeFolded folds pieces → values_of stored (map (folded folds) pieces) ≡ folded_values folds pieces (values_of stored pieces)
     values_folded pieces fit = all_values [] [] pieces refl fit.each fit.unread
 
-pub values_by_folds : (folds : List (Option FoldPlan)) (pieces more : List Piece) → more ≡ map (folded folds) pieces → FitFolds folds pieces → (stored : Stored) → values_of stored more ≡ folded_values folds pieces (values_of stored pieces)
+pub values_by_folds : (folds : List (Option FoldPlan)) (pieces more : List Piece) → more ≡ map (folded folds) pieces → MayBeFolded folds pieces → (stored : Stored) → values_of stored more ≡ folded_values folds pieces (values_of stored pieces)
 values_by_folds folds pieces more e fit stored = ap (values_of stored) e ∙ values_folded folds stored pieces fit

@@ -50,12 +50,12 @@ is_answer (end.Sort keys) = false
 
 -- A fold fits an answer of all rows without sort keys, which has a target for each group value and
 -- then one for each op.
-abbrev pub FitsFold : List LayoutPart → Option Fold → Ending → Type 0
-FitsFold layout None ending = ⊤
-FitsFold layout (Some fold) (building keys) = ⊤
-FitsFold layout (Some fold) (answering targets unique keys) = IsFolded layout targets fold × (unique ≡ false) × (keys ≡ [])
-FitsFold layout (Some fold) (folding targets other) = ⊤
-FitsFold layout (Some fold) (sorting keys) = ⊤
+abbrev pub MayEndFolded : List LayoutPart → Option Fold → Ending → Type 0
+MayEndFolded layout None ending = ⊤
+MayEndFolded layout (Some fold) (building keys) = ⊤
+MayEndFolded layout (Some fold) (answering targets unique keys) = IsFolded layout targets fold × (unique ≡ false) × (keys ≡ [])
+MayEndFolded layout (Some fold) (folding targets other) = ⊤
+MayEndFolded layout (Some fold) (sorting keys) = ⊤
 
 -- it keeps its end
 abbrev pub IsUnfolded : List (Option FoldPlan) → Piece → Type 0
@@ -66,8 +66,8 @@ abbrev pub AreUnfolded : List (Option FoldPlan) → List Piece → List ℕ → 
 AreUnfolded folds pieces numbers = AllByRecursion (λ (number : ℕ). (read : Piece) → slice_get pieces number ≡ Some read → IsUnfolded folds read) numbers
 
 -- the folds fit the answers, and no fragment reads an answer that is folded
-pub record FitFolds (folds : List (Option FoldPlan)) (pieces : List Piece) : Type 0 where
-  pub each : AllByRecursion (λ (piece : Piece). FitsFold piece.layout (fold_at folds piece.statement) piece.end) pieces
+pub record MayBeFolded (folds : List (Option FoldPlan)) (pieces : List Piece) : Type 0 where
+  pub each : AllByRecursion (λ (piece : Piece). MayEndFolded piece.layout (fold_at folds piece.statement) piece.end) pieces
   pub unread : AllByRecursion (λ (piece : Piece). AreUnfolded folds pieces (inputs_of piece)) pieces
 
 -- ---- values

@@ -3,7 +3,7 @@ ghost use Rattle.std.specs.Prelude.{◌≡◌, IfOk, map};
 ghost use Rattle.plan_tree.specs.Pieces.{piece_of, pieces_of};
 ghost use Rattle.plan_tree.specs.Fragments.{Stored, values_of};
 ghost use Rattle.plan_tree.specs.WellFormed.{AreWellFormed};
-ghost use Rattle.fragments.specs.Folds.{FitFolds, fold_at, folded, folded_values, is_answer};
+ghost use Rattle.fragments.specs.Folds.{MayBeFolded, fold_at, folded, folded_values, is_answer};
 
 use crate::NoMemory;
 use aggregate_op::{Fold, FoldTable};
@@ -75,9 +75,9 @@ pub fn with_folds(
     folds: &FoldTable,
 ) -> Result<FragmentList, NoMemory>
     ensures ends { IfOk result (λ more. pieces_of more ≡ map (folded folds.now) (pieces_of fragments)) }
-    ensures formed { AreWellFormed (pieces_of fragments) → FitFolds folds.now (pieces_of fragments) →
+    ensures formed { AreWellFormed (pieces_of fragments) → MayBeFolded folds.now (pieces_of fragments) →
         IfOk result (λ more. AreWellFormed (pieces_of more)) }
-    ensures values { FitFolds folds.now (pieces_of fragments) → IfOk result (λ more. (stored : Stored) →
+    ensures values { MayBeFolded folds.now (pieces_of fragments) → IfOk result (λ more. (stored : Stored) →
         values_of stored (pieces_of more)
         ≡ folded_values folds.now (pieces_of fragments) (values_of stored (pieces_of fragments))) }
 {
