@@ -67,15 +67,19 @@ targets_fit layout row fits (target ∷ targets) (c ∷ cs) types = (
   targets_fit layout row fits targets cs (let i : map (λ target. type_of target.expr (column_type layout)) targets ≡ map (λ c. Some c) cs = cc in i),
 )
 
-meaning_fits : (columns : List (List LayoutColumn)) (db : List Table) (q : Question) (kept : Kept) → ((relation : ℕ) → All (FitsColumns (listed columns relation)) (rows_of db relation)) → FitsTargets columns q kept →
-    AllByRecursion (FitsColumns (columns_kept kept)) (meaning db q)
-meaning_fits columns db q kept tables fits =
+pub meaning_typed : (columns : List (List LayoutColumn)) (db : List Table) (q : Question) (types : List LayoutColumn) → ((relation : ℕ) → All (FitsColumns (listed columns relation)) (rows_of db relation)) →
+    map (λ target. type_of target.expr (column_type (layout_in columns q))) q.targets ≡ map (λ c. Some c) types → AllByRecursion (FitsColumns types) (meaning db q)
+meaning_typed columns db q types tables typed =
     let layout = layout_in columns q in
-    let P = FitsColumns (columns_kept kept) in
+    let P = FitsColumns types in
     let rows = recursion_from_All (IsRowIn layout) (joined db [] q.vars) (joined_fit db (listed columns) q.vars tables) in
     let all = all_passing P (λ row. project q.targets (column_in layout row)) (IsRowIn layout)
-    (λ row h. targets_fit layout row h q.targets (columns_kept kept) fits.types) (λ row. passes q.test (column_in layout row)) (joined db [] q.vars) rows in
+    (λ row h. targets_fit layout row h q.targets types typed) (λ row. passes q.test (column_in layout row)) (joined db [] q.vars) rows in
     all_arranged P q.unique q.keys _ (subst (AllByRecursion P) (answers_are db (listed columns) q tables) all)
+
+meaning_fits : (columns : List (List LayoutColumn)) (db : List Table) (q : Question) (kept : Kept) → ((relation : ℕ) → All (FitsColumns (listed columns relation)) (rows_of db relation)) → FitsTargets columns q kept →
+    AllByRecursion (FitsColumns (columns_kept kept)) (meaning db q)
+meaning_fits columns db q kept tables fits = meaning_typed columns db q (columns_kept kept) tables fits.types
 
 -- tables that fit their columns
 
@@ -92,7 +96,7 @@ fit_rows (c ∷ cs) [] fit relation = elim fit [ ]
 fit_rows (c ∷ cs) (table ∷ tables) fit zero = fit.0
 fit_rows (c ∷ cs) (table ∷ tables) fit (suc relation) = fit_rows cs tables fit.1 relation
 
-fit_tables : (columns : List (List LayoutColumn)) (db : List Table) → FitColumns columns db → (relation : ℕ) → All (FitsColumns (listed columns relation)) (rows_of db relation)
+pub fit_tables : (columns : List (List LayoutColumn)) (db : List Table) → FitColumns columns db → (relation : ℕ) → All (FitsColumns (listed columns relation)) (rows_of db relation)
 fit_tables columns db fit relation = All-from_recursion (FitsColumns (listed columns relation)) (rows_of db relation) (fit_rows columns db fit relation)
 
 pub can_be_asked : (columns : List (List LayoutColumn)) (db : List Table) (q : Question) → FitColumns columns db → IsResolvedIn columns q → CanBeAsked (listed columns) db q

@@ -1,2 +1,3 @@
 pub mod KeptAnswers
 pub mod Sample
+pub mod FoldedAnswers

@@ -1,5 +1,11 @@
--- Two statements for the tests: one that keeps a great number, and one that reads it.
-use Rattle.std.specs.Prelude.{true, false, ℕ, pos, [], ◌∷◌, None}
+-- Two statements for the tests: one that keeps a great number, and one that reads it; and what the tests fold.
+use Rattle.std.specs.Prelude.{◌≡◌, true, false, ℕ, ℤ, pos, List, [], ◌∷◌, length, map, Option, None, Some, IfSome}
+use Rattle.std.specs.List.{AllByRecursion}
+use Rattle.rows.specs.declared.value.Value.{Value}
+use Rattle.rows.specs.declared.value.Value.TheVariants.{Number}
+use Rattle.aggregate_op.specs.declared.fold.FoldOp.TheVariants.{Sum}
+use Rattle.aggregate_op.specs.declared.fold.FoldPlace.TheVariants.{Op}
+use Rattle.aggregate_op.specs.declared.fold.FoldPlan.{FoldPlan}
 use Rattle.rows.specs.declared.field.ColType.TheVariants as col
 use Rattle.rel_meaning.specs.Expression as ex
 use Rattle.rel_meaning.specs.Expression.{Question}
@@ -33,3 +39,24 @@ great_kept = record {
   columns = record { name = []; col_type = col.Int4; nullable = true } ∷ [];
   bounds = great ∷ [];
 }
+
+-- the second statement adds up what it reads
+abbrev pub reading_sum : List (Option FoldPlan)
+reading_sum = None ∷ Some (record { fold = record { groups = 0; ops = Sum ∷ []; places = Op 0 ∷ [] }; keys = [] }) ∷ []
+
+-- four numbers, as the folds of the tests want
+pub record AreFour (row : List Value) : Type 0 where
+  pub numbers : List ℤ
+  pub whole : row ≡ map (λ n. Number n) numbers
+  pub count : length numbers ≡ 4
+
+-- a fold of one group value and three ops
+pub record IsPerGroup (plan : FoldPlan) : Type 0 where
+  pub groups : plan.fold.groups ≡ 1
+  pub ops : length plan.fold.ops ≡ 3
+
+abbrev pub ArePerGroup : List (Option FoldPlan) → Type 0
+ArePerGroup folds = AllByRecursion (λ plan. IfSome plan IsPerGroup) folds
+
+abbrev pub AreFours : List (List (List Value)) → Type 0
+AreFours answers = AllByRecursion (λ rows. AllByRecursion AreFour rows) answers

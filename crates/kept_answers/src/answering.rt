@@ -99,7 +99,7 @@ fn answer_all(
 
 /// The rows of each query of a script: its relational meaning over the tables, and over the answers
 /// that the statements before it keep, which stand behind the tables in the order of their
-/// statements. The queries are resolved for these relations and have no fold. The kept relations
+/// statements. The queries are resolved for these relations, and no fold counts. The kept relations
 /// are of other statements each, in their order, and have a column for each target of their query,
 /// with its type and bound. Each table's rows are of its columns. An `Err` is want of memory.
 pub fn answer_script(
