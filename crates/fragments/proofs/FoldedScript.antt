@@ -4,9 +4,11 @@ use Rattle.std.specs.Prelude.{◌⊎◌, ⊤, IfSome, IsSome}
 use Rattle.std.specs.List.{AllByRecursion}
 use Rattle.std.specs.Option.{option_map}
 use Rattle.std.proofs.lemmas.Bool.{cases_lt}
-use Rattle.std.proofs.lemmas.List.{append-nil, map-append}
+use Rattle.std.proofs.Math.Seq.{drop-append_seam}
+use Rattle.std.proofs.lemmas.List.{append-nil, length-map, map-append}
 use Rattle.std.proofs.lemmas.Option.{slice_get-map}
 use Rattle.rows.specs.declared.value.Value.{Value}
+use Rattle.rows.specs.declared.field.ColType.TheVariants.{Int4}
 use Rattle.rows.specs.declared.order.SortKey.{SortKey}
 use Rattle.rows.specs.declared.plain.Column.{Column}
 use Rattle.rows.specs.declared.plain.ColumnRef.{ColumnRef}
@@ -17,7 +19,10 @@ use Rattle.rows.specs.declared.plain.Relation.{Relation}
 use Rattle.rows.specs.Layouts.{all_columns, column_type}
 use Rattle.rel_meaning.specs.declared.query.Table.{Table}
 use Rattle.rel_meaning.specs.Expression.{Expression, Output, Question}
+use Rattle.rel_meaning.specs.Typing.{bound_if, integer_bound}
 use Rattle.aggregate_op.specs.declared.fold.Fold.{Fold}
+use Rattle.aggregate_op.specs.declared.fold.FoldOp.{FoldOp}
+use Rattle.aggregate_op.specs.declared.fold.FoldOp.TheVariants.{Count, Min, Max, Sum}
 use Rattle.aggregate_op.specs.declared.fold.FoldPlan.{FoldPlan}
 use Rattle.plan_tree.specs.declared.fragment.Source.{Source}
 use Rattle.plan_tree.specs.declared.fragment.Source.TheVariants as source
@@ -27,13 +32,15 @@ use Rattle.plan_tree.specs.Inputs.{inputs_of, probe_inputs, source_inputs}
 use Rattle.plan_tree.specs.Pieces.{Ending, Piece, Probing, building, answering, folding, sorting}
 use Rattle.plan_tree.specs.Trees.{Shape, one, scan, join}
 use Rattle.plan_tree.specs.Views.{Planned}
-use Rattle.plan_tree.specs.WellFormed.{AnswersColumns, AreProbes, AreSummed, AreTargets, HasInput, IsAnswered, IsBuilt, IsEnd, IsFolded, IsPiece, IsSorted, IsSource, ReadsAnswer, ReadsBuilt, target_types}
+use Rattle.plan_tree.specs.WellFormed.{AnswersColumns, AreProbes, AreSummed, HasInput, IsAnswered, IsBuilt, IsEnd, IsFolded, IsPiece, IsSorted, IsSource, ReadsAnswer, ReadsBuilt, target_types, type_at}
 use Rattle.plan_tree.proofs.Typing.{get_left, get_right}
 use Rattle.seq_optimizer.specs.declared.stats.VarStats.{VarStats}
 use Rattle.kept_relations.specs.declared.kept.Kept.{Kept}
-use Rattle.kept_answers.specs.KeptAnswers.{AscendFrom, answers_of, columns_behind, kept_of, layout_in}
+use Rattle.kept_relations.specs.Fitting.{AscendFrom, columns_behind, kept_of, layout_in}
+use Rattle.kept_answers.specs.FoldedAnswers.{AreOpColumns, FoldsTargets}
+use Rattle.kept_answers.specs.KeptAnswers.{answers_of}
 use Rattle.fragments.specs.Folds.{AreUnfolded, MayBeFolded, MayEndFolded, IsUnfolded, fold_at, folded, folded_end, folded_value, folded_values, value_folded}
-use Rattle.fragments.specs.FoldedScripts.{FoldQueries, IsFoldOf, MeanFolded, folded_from, rows_folded}
+use Rattle.fragments.specs.FoldedScripts.{AreFolds, AreFoldsFrom, IsFoldOf, MeanFolded, partial_if, partials_from}
 use Rattle.fragments.specs.Homes.{Known}
 use Rattle.fragments.specs.Cuts.{Cut, Facts, closed, cut_query, cut_tree, left_sort, right_sort, tree_layout}
 use Rattle.fragments.specs.Laws.{HoldTables, PlansFit}
@@ -69,6 +76,54 @@ answer_read columns layout (Some fold) (building keys) h = refl
 answer_read columns layout (Some fold) (answering targets unique keys) h = elim h [ ]
 answer_read columns layout (Some fold) (folding targets other) h = refl
 answer_read columns layout (Some fold) (sorting keys) h = refl
+
+-- ---- the types of a fold's targets
+
+all_types : (cs : List LayoutColumn) → AllByRecursion (λ type. IsSome type) (map Some cs)
+all_types [] = tt
+all_types (c ∷ cs) = (refl, all_types cs)
+
+as_many : (ops : List FoldOp) (cs : List LayoutColumn) → AreOpColumns ops cs → length cs ≡ length ops
+as_many [] [] h = refl
+as_many [] (c ∷ cs) h = elim h [ ]
+as_many (Sum ∷ ops) [] h = elim h [ ]
+as_many (Count ∷ ops) [] h = elim h [ ]
+as_many (Min ∷ ops) [] h = elim h [ ]
+as_many (Max ∷ ops) [] h = elim h [ ]
+as_many (Sum ∷ ops) (c ∷ cs) h = ap suc (as_many ops cs h.1)
+as_many (Count ∷ ops) (c ∷ cs) h = ap suc (as_many ops cs h)
+as_many (Min ∷ ops) (c ∷ cs) h = ap suc (as_many ops cs h)
+as_many (Max ∷ ops) (c ∷ cs) h = ap suc (as_many ops cs h)
+
+an_integer : (c : LayoutColumn) → c.col_type ≡ Int4 → IsSome (integer_bound (Some c))
+an_integer c h = subst (λ t. IsSome (bound_if t c.bound)) (sym h) refl
+
+all_summed : (ops : List FoldOp) (cs : List LayoutColumn) → AreOpColumns ops cs → AreSummed ops (map Some cs)
+all_summed [] cs h = tt
+all_summed (Sum ∷ ops) [] h = tt
+all_summed (Count ∷ ops) [] h = tt
+all_summed (Min ∷ ops) [] h = tt
+all_summed (Max ∷ ops) [] h = tt
+all_summed (Sum ∷ ops) (c ∷ cs) h = (an_integer c h.0, all_summed ops cs h.1)
+all_summed (Count ∷ ops) (c ∷ cs) h = all_summed ops cs h
+all_summed (Min ∷ ops) (c ∷ cs) h = all_summed ops cs h
+all_summed (Max ∷ ops) (c ∷ cs) h = all_summed ops cs h
+
+-- the targets of a query with a fold, in a layout in which they have the same types
+folded_types : (layout : List LayoutPart) (columns : List (List LayoutColumn)) (q : Question) (fold : Fold) → FoldsTargets columns q fold →
+    target_types layout q.targets ≡ target_types (layout_in columns q) q.targets → IsFolded layout q.targets fold
+folded_types layout columns q fold t same =
+    let types : target_types layout q.targets ≡ map Some (t.groups ++ t.values) = same ∙ t.types in
+    let split : map Some (t.groups ++ t.values) ≡ map Some t.groups ++ map Some t.values = map-append Some t.groups t.values in
+    let front : fold.groups ≡ length (map {B = Option LayoutColumn} Some t.groups) = sym t.width ∙ sym (length-map t.groups Some) in
+    record {
+      typed = subst (λ ts. AllByRecursion (λ type. IsSome type) ts) (sym types) (all_types (t.groups ++ t.values));
+      width = sym (length-map q.targets (type_at layout)) ∙ ap length types ∙ length-map (t.groups ++ t.values) Some ∙ length-append t.groups t.values
+          ∙ (λ i. t.width i + as_many fold.ops t.values t.ops i);
+      sums = subst (λ ts. AreSummed fold.ops ts)
+          (sym (ap (drop fold.groups) (types ∙ split) ∙ ap (λ n. drop n (map Some t.groups ++ map Some t.values)) front ∙ drop-append_seam (map Some t.groups) (map Some t.values)))
+          (all_summed fold.ops t.values t.ops);
+    }
 
 module _ (folds : List (Option FoldPlan)) where
   abbrev F : Piece → Piece
@@ -196,9 +251,9 @@ module _ (folds : List (Option FoldPlan)) where
 
   -- by the value of a statement's last fragment, what it is where its answer is folded
   abbrev Shows : ℕ → Piece → Type 0
-  Shows statement piece = (rows : List (List Value)) → folded_value folds piece rows ≡ rows_folded (fold_at folds statement) rows
+  Shows statement piece = (rows : List (List Value)) → folded_value folds piece rows ≡ partial_if (fold_at folds statement) rows
 
-  shows_answer : (o : Option Fold) (targets : List Output) (unique : Bool) (keys : List SortKey) (rows : List (List Value)) → value_folded o (answering targets unique keys) rows ≡ rows_folded o rows
+  shows_answer : (o : Option Fold) (targets : List Output) (unique : Bool) (keys : List SortKey) (rows : List (List Value)) → value_folded o (answering targets unique keys) rows ≡ partial_if o rows
   shows_answer None targets unique keys rows = refl
   shows_answer (Some fold) targets unique keys rows = refl
 
@@ -219,15 +274,7 @@ module _ (folds : List (Option FoldPlan)) where
       fits : (fold : Option Fold) → IfSome fold (IsFoldOf columns p.query (kept_of known.kept (length lasts))) → MayEndFolded (tree_layout facts p.tree) fold (answering p.query.targets p.query.unique p.query.keys)
       fits None h = tt
       fits (Some fold) h =
-          let is = h.folded in (
-            record {
-              typed = subst (λ types. AllByRecursion (λ type. IsSome type) types) (sym same_targets) is.typed;
-              width = is.width;
-              sums = subst (λ types. AreSummed fold.ops (drop fold.groups types)) (sym same_targets) is.sums;
-            },
-            h.all,
-            h.plain,
-          )
+          (folded_types (tree_layout facts p.tree) columns p.query fold h.targets same_targets, h.all, h.plain)
 
       answered : (fold : Option Fold) → IfSome fold (IsFoldOf columns p.query (kept_of known.kept (length lasts))) → (k : Kept) → kept_of known.kept (length lasts) ≡ Some k →
           folded_end fold (answering p.query.targets p.query.unique p.query.keys) ≡ answering p.query.targets p.query.unique p.query.keys
@@ -241,10 +288,10 @@ module _ (folds : List (Option FoldPlan)) where
       query_same n = same_append (cut_tree facts n p.tree).before _ _ (tree_same facts n p.tree) refl
 
     abbrev statements_fold : List Planned → List ℕ → List (List LayoutColumn) → Type 0
-    statements_fold ps lasts columns = FoldQueries columns known.kept folds (length lasts) (map (λ (p : Planned). p.query) ps)
+    statements_fold ps lasts columns = AreFoldsFrom columns known.kept folds (length lasts) (map (λ (p : Planned). p.query) ps)
 
-    next_folds : (ps : List Planned) (lasts : List ℕ) (last : ℕ) (columns : List (List LayoutColumn)) → FoldQueries columns known.kept folds (length lasts + 1) (map (λ (p : Planned). p.query) ps) → statements_fold ps (lasts ++ last ∷ []) columns
-    next_folds ps lasts last columns h = subst (λ n. FoldQueries columns known.kept folds n (map (λ (p : Planned). p.query) ps)) (sym (length-append lasts (last ∷ []))) h
+    next_folds : (ps : List Planned) (lasts : List ℕ) (last : ℕ) (columns : List (List LayoutColumn)) → AreFoldsFrom columns known.kept folds (length lasts + 1) (map (λ (p : Planned). p.query) ps) → statements_fold ps (lasts ++ last ∷ []) columns
+    next_folds ps lasts last columns h = subst (λ n. AreFoldsFrom columns known.kept folds n (map (λ (p : Planned). p.query) ps)) (sym (length-append lasts (last ∷ []))) h
 
     script_folded : (ps : List Planned) (lasts : List ℕ) (columns : List (List LayoutColumn)) (n : ℕ) (before : List Piece) → length before ≡ n → AreReady known table lasts columns n ps →
         AreAnswers known table files before lasts → statements_fold ps lasts columns → AreFormed before (map F (cut_from known table lasts n ps))
@@ -326,18 +373,18 @@ module _ (folds : List (Option FoldPlan)) where
 
   all_there : (pieces : List Piece) (values : List (List (List Value))) → length pieces ≡ length values → (numbers : List ℕ) (i : ℕ) →
       ((j number : ℕ) → slice_get numbers j ≡ Some number → HasInput pieces number (Shows (i + j))) →
-      map (value_at (folded_values folds pieces values)) numbers ≡ folded_from folds i (map (value_at values) numbers)
+      map (value_at (folded_values folds pieces values)) numbers ≡ partials_from folds i (map (value_at values) numbers)
   all_there pieces values same [] i are = refl
   all_there pieces values same (number ∷ numbers) i are =
       let h = are 0 number refl in
       let z : i + 0 ≡ i = omega arith in
-      let here = value_there pieces values number h.0 same h.1 ∙ h.2 (value_at values number) ∙ ap (λ (j : ℕ). rows_folded (fold_at folds j) (value_at values number)) z in
+      let here = value_there pieces values number h.0 same h.1 ∙ h.2 (value_at values number) ∙ ap (λ (j : ℕ). partial_if (fold_at folds j) (value_at values number)) z in
       let rest = all_there pieces values same numbers (i + 1) (λ j m at. let e : i + suc j ≡ i + 1 + j = omega arith in subst (λ (k : ℕ). HasInput pieces m (Shows k)) e (are (suc j) m at)) in
       λ k. here k ∷ rest k
 
 -- folds of the queries of a script fit its fragments
 pub script_fit : (known : Known) (table : List (List VarStats)) (ps : List Planned) (folds : List (Option FoldPlan)) → MayCut known table ps →
-    FoldQueries (catalog_columns known) known.kept folds 0 (map (λ (p : Planned). p.query) ps) → MayBeFolded folds (cut_plans known table ps)
+    AreFolds (catalog_columns known) known.kept folds (map (λ (p : Planned). p.query) ps) → MayBeFolded folds (cut_plans known table ps)
 script_fit known table ps folds may fold =
     let ready = all_ready known table ps may in
     record {
@@ -348,7 +395,7 @@ script_fit known table ps folds may fold =
 
 -- with their folds, the fragments of a script mean its queries
 pub script_means : (known : Known) (table : List (List VarStats)) (ps : List Planned) (folds : List (Option FoldPlan)) → MayCut known table ps →
-    FoldQueries (catalog_columns known) known.kept folds 0 (map (λ (p : Planned). p.query) ps) → MeanFolded known table ps folds (map (folded folds) (cut_plans known table ps))
+    AreFolds (catalog_columns known) known.kept folds (map (λ (p : Planned). p.query) ps) → MeanFolded known table ps folds (map (folded folds) (cut_plans known table ps))
 script_means known table ps folds may fold stored db holds fit =
     let pieces = cut_plans known table ps in
     let values = values_of stored pieces in
@@ -358,4 +405,4 @@ script_means known table ps folds may fold stored db holds fit =
     let are = script_lasts folds known table may.files may.kept.ascending ps [] (catalog_columns known) 0 [] refl (all_ready known table ps may) (λ i number at. cc) in
     ap (λ (vs : List (List (List Value))). map (value_at vs) lasts) (values_folded folds stored pieces (script_fit known table ps folds may fold))
     ∙ all_there folds pieces values same lasts 0 (λ j number at. let z : j ≡ 0 + j = omega arith in subst (λ (k : ℕ). HasInput pieces number (Shows folds k)) z (are j number at))
-    ∙ ap (folded_from folds 0) (all_mean known table ps may stored db holds fit)
+    ∙ ap (partials_from folds 0) (all_mean known table ps may stored db holds fit)

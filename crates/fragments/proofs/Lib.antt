@@ -10,7 +10,6 @@ mod Typed
 mod Formed
 mod FormedScript
 mod NamedFiles
-mod BoundsSet
 mod TreeValues
 mod StoredReads
 mod ScriptValues

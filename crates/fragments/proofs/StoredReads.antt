@@ -33,7 +33,7 @@ use Rattle.kept_relations.specs.declared.kept.Kept.{Kept}
 use Rattle.fragments.specs.Homes.{Home, Known, Store, columns_in, heap_file, home_for, home_if, home_of, index_if, indexes_before, kept_home, made, made_by, nowhere, stored, stored_if}
 use Rattle.fragments.specs.Laws.{HoldTables, HoldsTable, IsLeft, ReadsLeft, entry_rows}
 use Rattle.fragments.specs.Premises.{HasFiles}
-use Rattle.fragments.proofs.BoundsSet.{bounds_set}
+use Rattle.seq_optimizer.proofs.BoundsSet.{bounds_set}
 use Rattle.fragments.proofs.Formed.{less_of}
 use Rattle.fragments.proofs.Standing.{all_at, some_at}
 use Rattle.fragments.proofs.TreeValues.{home_rows, index_rows, store_rows}

@@ -7,19 +7,16 @@ use Rattle.rows.specs.declared.plain.LayoutPart.{LayoutPart}
 use Rattle.aggregate_op.specs.declared.fold.Fold.{Fold}
 use Rattle.aggregate_op.specs.declared.fold.FoldPlan.{FoldPlan}
 use Rattle.aggregate_op.specs.Partials.{partial}
+use Rattle.kept_answers.specs.FoldedAnswers.{plan_at}
 use Rattle.plan_tree.specs.Inputs.{inputs_of}
 use Rattle.plan_tree.specs.Pieces.{Ending, Piece, building, answering, folding, sorting}
 use Rattle.plan_tree.specs.WellFormed.{IsFolded}
 use Rattle.plan_tree.specs.declared.fragment.End.{End}
 use Rattle.plan_tree.specs.declared.fragment.End.TheVariants as end
 
-abbrev pub fold_in : Option (Option FoldPlan) → Option Fold
-fold_in None = None
-fold_in (Some plan) = option_map (λ (p : FoldPlan). p.fold) plan
-
 -- the fold of a statement, if it has one
 abbrev pub fold_at : List (Option FoldPlan) → ℕ → Option Fold
-fold_at folds statement = fold_in (slice_get folds statement)
+fold_at folds statement = option_map (λ (plan : FoldPlan). plan.fold) (plan_at folds statement)
 
 -- the targets of an answer, folded
 abbrev pub folded_end : Option Fold → Ending → Ending

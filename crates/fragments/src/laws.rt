@@ -4,7 +4,7 @@ ghost use Rattle.aggregate_op.specs.declared.fold.FoldPlan.{FoldPlan};
 ghost use Rattle.plan_tree.specs.Views.{Planned};
 ghost use Rattle.seq_optimizer.specs.declared.stats.VarStats.{VarStats};
 ghost use Rattle.fragments.specs.Folds.{MayBeFolded, folded};
-ghost use Rattle.fragments.specs.FoldedScripts.{FoldQueries, MeanFolded};
+ghost use Rattle.fragments.specs.FoldedScripts.{AreFolds, MeanFolded};
 ghost use Rattle.fragments.specs.Homes.{Known};
 ghost use Rattle.fragments.specs.Premises.{MayCut, catalog_columns};
 ghost use Rattle.fragments.specs.Scripts.{cut_plans};
@@ -16,10 +16,10 @@ ghost use Rattle.fragments.specs.Scripts.{cut_plans};
 pub fn fold_laws()
     ensures fit { (known : Known) (table : List (List VarStats)) (ps : List Planned)
         (folds : List (Option FoldPlan)) → MayCut known table ps →
-        FoldQueries (catalog_columns known) known.kept folds 0 (map (λ (p : Planned). p.query) ps) →
+        AreFolds (catalog_columns known) known.kept folds (map (λ (p : Planned). p.query) ps) →
         MayBeFolded folds (cut_plans known table ps) }
     ensures means { (known : Known) (table : List (List VarStats)) (ps : List Planned)
         (folds : List (Option FoldPlan)) → MayCut known table ps →
-        FoldQueries (catalog_columns known) known.kept folds 0 (map (λ (p : Planned). p.query) ps) →
+        AreFolds (catalog_columns known) known.kept folds (map (λ (p : Planned). p.query) ps) →
         MeanFolded known table ps folds (map (folded folds) (cut_plans known table ps)) }
 {}

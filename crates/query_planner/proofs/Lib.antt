@@ -5,7 +5,6 @@ mod Causing
 mod Counted
 mod SoFar
 pub mod Stored
-mod BoundsSet
 mod Ranks
 mod EntryRows
 mod PlansMean

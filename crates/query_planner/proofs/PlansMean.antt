@@ -47,7 +47,7 @@ use Rattle.query_planner.specs.Counted.{AreStats, bounds_on, interval_in}
 use Rattle.query_planner.specs.Reading.{entries_in, entry_rows, index_rows, read_by, table_rows, var_rows}
 use Rattle.query_planner.proofs.EntryRows.{Leads, entries_lead, keys_are, row_of, rows_are, rows_ascend, same_rows}
 use Rattle.query_planner.proofs.Ranks.{end_agrees, keys_in, lower_agrees}
-use Rattle.query_planner.proofs.BoundsSet.{bounds_set}
+use Rattle.seq_optimizer.proofs.BoundsSet.{bounds_set}
 
 -- an element below the length is there
 there : {X : Type 0} (xs : List X) (i : ℕ) → i < length xs → (x : X) × (slice_get xs i ≡ Some x)

@@ -18,3 +18,4 @@ pub mod Sizes
 pub mod Splits
 pub mod Walks
 pub mod OnePlan
+pub mod BoundsSet

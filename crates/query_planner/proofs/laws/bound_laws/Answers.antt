@@ -1,4 +1,4 @@
-use Rattle.query_planner.proofs.BoundsSet.{bounds_set}
+use Rattle.seq_optimizer.proofs.BoundsSet.{bounds_set}
 use Rattle.query_planner.proofs.laws.bound_laws.Goals as goal
 
 pub returns : goal.returns
