@@ -1,8 +1,10 @@
 //! The answer of a fold by what is known of its groups.
-ghost use Rattle.std.specs.Prelude.{◌≡◌, ◌++◌, ◌∷◌, [], List, map, IfOk, OnOk, Some, None, if◌then◌else◌};
+ghost use Rattle.std.specs.Prelude.{◌≡◌, ◌++◌, ◌∷◌, [], List, map, IfOk, OnOk, Some, None};
+ghost use Rattle.std.specs.Prelude.{if◌then◌else◌};
 ghost use Rattle.std.specs.Option.{option_map};
 ghost use Rattle.rows.specs.declared.value.Value.{Value};
-ghost use Rattle.aggregate_op.specs.Closing.{closed_groups, closed_part, closed_parts, closed_row, nothing_known, rows_in};
+ghost use Rattle.aggregate_op.specs.Closing.{closed_groups, closed_part, closed_parts, closed_row};
+ghost use Rattle.aggregate_op.specs.Closing.{nothing_known, rows_in};
 ghost use Rattle.aggregate_op.specs.FoldMeaning.{all_some, fold_answer, shown};
 ghost use Rattle.aggregate_op.specs.Partials.{number};
 ghost use Rattle.aggregate_op.specs.Stored.{IsPartialOf};
@@ -14,7 +16,8 @@ use crate::{Fold, FoldOp, FoldPlace};
 use rows::{Row, Rows, Value};
 use std::alloc::{AllocError, Global};
 
-/// The answer of a fold. It is too large where a group has 2^48 rows or more, or a sum leaves 64 bits.
+/// The answer of a fold. It is too large where a group has 2^48 rows or more, or a sum leaves 64
+/// bits.
 #[derive(Debug, Drop)]
 pub enum Closed {
     Rows(Rows),
@@ -53,7 +56,9 @@ fn put_answers(
     ops: &[FoldOp],
     parts: &[Value],
 ) -> Result<bool, AllocError>
-    ensures { IfOk result (λ whole. (if whole then Some answers.new.items else None) ≡ option_map (λ more. answers.old.items ++ more) (all_some (closed_parts ops.now parts.now))) }
+    ensures { IfOk result (λ whole. (if whole then Some answers.new.items else None)
+        ≡ option_map (λ more. answers.old.items ++ more)
+        (all_some (closed_parts ops.now parts.now))) }
 {
     let Some((op, ops)) = ops.split_first() else {
         return Ok(true);
@@ -115,7 +120,8 @@ fn closed_row(alloc: Global, row: &[Value], fold: &Fold) -> Result<Option<Row>, 
 
 // The answer by what is known of its groups.
 fn close_rows(alloc: Global, groups: &[Row], fold: &Fold) -> Result<Closed, AllocError>
-    ensures { IfOk result (λ closed. rows_in closed ≡ all_some (map (closed_row fold.now) groups.now)) }
+    ensures { IfOk result (λ closed.
+        rows_in closed ≡ all_some (map (closed_row fold.now) groups.now)) }
 {
     let mut rows = Vec::with_capacity(alloc, groups.len())?;
     for group in groups {
@@ -129,7 +135,8 @@ fn close_rows(alloc: Global, groups: &[Row], fold: &Fold) -> Result<Closed, Allo
 
 // The answer where there is no row and there are no group values.
 fn close_nothing(alloc: Global, fold: &Fold) -> Result<Closed, AllocError>
-    ensures { IfOk result (λ closed. rows_in closed ≡ all_some (closed_row fold.now (nothing_known fold.now) ∷ [])) }
+    ensures { IfOk result (λ closed.
+        rows_in closed ≡ all_some (closed_row fold.now (nothing_known fold.now) ∷ [])) }
 {
     let mut known = Vec::new(alloc);
     known.push(Value::Number(0))?;
@@ -150,10 +157,12 @@ fn closed_groups(alloc: Global, groups: &Rows, fold: &Fold) -> Result<Closed, Al
     }
 }
 
-/// The answer of a fold by the partial of its rows, in ascending order of the groups. It is too large exactly where a
-/// group has 2^48 rows or more, or a sum leaves 64 bits. An error is want of memory.
+/// The answer of a fold by the partial of its rows, in ascending order of the groups. It is too
+/// large exactly where a group has 2^48 rows or more, or a sum leaves 64 bits. An error is want of
+/// memory.
 pub fn close_groups(alloc: Global, groups: &Rows, fold: &Fold) -> Result<Closed, AllocError>
-    ensures { IfOk result (λ closed. (rows : List (List Value)) → IsPartialOf fold.now rows groups.now → rows_in closed ≡ fold_answer fold.now rows) }
+    ensures { IfOk result (λ closed. (rows : List (List Value))
+        → IsPartialOf fold.now rows groups.now → rows_in closed ≡ fold_answer fold.now rows) }
 {
     closed_groups(alloc, groups, fold)
 }

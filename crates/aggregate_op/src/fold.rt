@@ -22,8 +22,8 @@ pub enum FoldPlace {
 
 pub type FoldPlaceList = Sequence<FoldPlace>;
 
-/// A fold of rows whose first `groups` values are the group values. One value for each op follows. `places` tells the
-/// columns of the answer.
+/// A fold of rows whose first `groups` values are the group values. One value for each op follows.
+/// `places` tells the columns of the answer.
 #[derive(Debug, Drop)]
 pub struct Fold {
     pub groups: u32,

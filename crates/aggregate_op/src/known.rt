@@ -65,7 +65,8 @@ fn put_joined_known(
     left: &[Value],
     right: &[Value],
 ) -> Result<(), AllocError>
-    ensures { OnOk result (known.new.items ≡ known.old.items ++ joined_known fold.now left.now right.now) }
+    ensures { OnOk result (known.new.items
+        ≡ known.old.items ++ joined_known fold.now left.now right.now) }
 {
     let rows = added(left, right, 0);
     if rows >= MOST_ROWS {

@@ -1,5 +1,5 @@
-//! Folds of groups of rows: which they are. A fold counts, adds up or takes the least or the greatest of values, group
-//! by group.
+//! Folds of groups of rows: which they are. A fold counts, adds up or takes the least or the
+//! greatest of values, group by group.
 #![tactic(auto)]
 
 mod closing;

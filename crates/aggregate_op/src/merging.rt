@@ -43,7 +43,9 @@ fn take_both(
     right: &mut Vec<Row>,
     fold: &Fold,
 ) -> Result<Option<Row>, AllocError>
-    ensures { TakesBoth fold.now (reverse left.old.items) (reverse right.old.items) → IfOk result (IsTaken fold.now left.old.items right.old.items left.new.items right.new.items) }
+    ensures { TakesBoth fold.now (reverse left.old.items) (reverse right.old.items)
+        → IfOk result (IsTaken fold.now left.old.items right.old.items
+        left.new.items right.new.items) }
 {
     let first = left.pop();
     let other = right.pop();
@@ -62,7 +64,8 @@ fn take_next(
     right: &mut Vec<Row>,
     fold: &Fold,
 ) -> Result<Option<Row>, AllocError>
-    ensures { IfOk result (IsTaken fold.now left.old.items right.old.items left.new.items right.new.items) }
+    ensures { IfOk result (IsTaken fold.now left.old.items right.old.items
+        left.new.items right.new.items) }
 {
     match next_side(left.as_slice(), right.as_slice(), fold) {
         Side::Left => Ok(left.pop()),
@@ -72,7 +75,8 @@ fn take_next(
     }
 }
 
-// The rows of two lists, each in ascending order of the groups, as one such list with one row for each group.
+// The rows of two lists, each in ascending order of the groups, as one such list with one row for
+// each group.
 pub(crate) fn merge_rows(
     alloc: Global,
     mut left: Vec<Row>,

@@ -35,23 +35,27 @@ fn known_rows(alloc: Global, rows: &[&Row], fold: &Fold) -> Result<Vec<Row>, All
 
 // The partial of rows, by their groups in order.
 fn partial_of(alloc: Global, rows: &[Row], fold: &Fold) -> Result<Vec<Row>, AllocError>
-    ensures { IfOk result (λ found. AllByRecursion (IsFoldRow fold.now) rows.now → IsPartialOf fold.now rows.now found.items) }
+    ensures { IfOk result (λ found. AllByRecursion (IsFoldRow fold.now) rows.now
+        → IsPartialOf fold.now rows.now found.items) }
 {
     let ordered = in_group_order(alloc, rows, fold)?;
     Ok(known_rows(alloc, ordered.as_slice(), fold)?)
 }
 
-/// What is known of each group of some rows, in ascending order of the groups, where each row has the group values and
-/// then a value for each op, a number or null under `Sum`. An error is want of memory.
+/// What is known of each group of some rows, in ascending order of the groups, where each row has
+/// the group values and then a value for each op, a number or null under `Sum`. An error is want of
+/// memory.
 pub fn partial(alloc: Global, rows: &Rows, fold: &Fold) -> Result<Rows, AllocError>
-    ensures { IfOk result (λ found. AllByRecursion (IsFoldRow fold.now) rows.now → IsPartialOf fold.now rows.now found) }
+    ensures { IfOk result (λ found. AllByRecursion (IsFoldRow fold.now) rows.now
+        → IsPartialOf fold.now rows.now found) }
 {
     Ok(Rows::from_vec(partial_of(alloc, rows.items(), fold)?))
 }
 
 /// The partial of the rows of two partials. An error is want of memory.
 pub fn merge(alloc: Global, left: &Rows, right: &Rows, fold: &Fold) -> Result<Rows, AllocError>
-    ensures { IfOk result (λ found. (a b : List (List Value)) → IsPartialOf fold.now a left.now → IsPartialOf fold.now b right.now → IsPartialOf fold.now (a ++ b) found) }
+    ensures { IfOk result (λ found. (a b : List (List Value)) → IsPartialOf fold.now a left.now
+        → IsPartialOf fold.now b right.now → IsPartialOf fold.now (a ++ b) found) }
 {
     let left = left.copy(alloc)?.into_vec();
     let right = right.copy(alloc)?.into_vec();
@@ -85,7 +89,9 @@ fn merge_parts(
     mut parts: Vec<Arc<Rows>>,
     fold: &Fold,
 ) -> Result<Vec<Row>, AllocError>
-    ensures { IfOk result (λ found. (lists : List (List (List Value))) → ArePartialsOf fold.now lists (map (λ part. part.value) parts.items) → IsPartialOf fold.now (all_rows lists) found.items) }
+    ensures { IfOk result (λ found. (lists : List (List (List Value)))
+        → ArePartialsOf fold.now lists (map (λ part. part.value) parts.items)
+        → IsPartialOf fold.now (all_rows lists) found.items) }
 {
     if parts.len() < 2 {
         return only_part(alloc, parts);
@@ -96,10 +102,13 @@ fn merge_parts(
     Ok(merge_rows(alloc, left, right, fold)?)
 }
 
-/// The partial of the rows of several partials, in order. Each row is merged once for each time that the number of parts
-/// can be halved. The rows of a part that nothing else shares are moved, and not copied. An error is want of memory.
+/// The partial of the rows of several partials, in order. Each row is merged once for each time
+/// that the number of parts can be halved. The rows of a part that nothing else shares are moved,
+/// and not copied. An error is want of memory.
 pub fn merge_all(alloc: Global, parts: Vec<Arc<Rows>>, fold: &Fold) -> Result<Rows, AllocError>
-    ensures { IfOk result (λ found. (lists : List (List (List Value))) → ArePartialsOf fold.now lists (map (λ part. part.value) parts.items) → IsPartialOf fold.now (all_rows lists) found) }
+    ensures { IfOk result (λ found. (lists : List (List (List Value)))
+        → ArePartialsOf fold.now lists (map (λ part. part.value) parts.items)
+        → IsPartialOf fold.now (all_rows lists) found) }
 {
     Ok(Rows::from_vec(merge_parts(alloc, parts, fold)?))
 }

@@ -2,7 +2,8 @@
 ghost use Rattle.std.specs.Prelude.{◌≡◌, ◌++◌, [], ◌∷◌, IfOk, OnOk, drop};
 ghost use Rattle.rows.specs.declared.value.Value.TheVariants.{Number};
 ghost use Rattle.rows.specs.Values.{column_of, is_null, value_cmp};
-ghost use Rattle.aggregate_op.specs.Joined.{added, carried, greater, joined_part, joined_parts, lesser, part_width};
+ghost use Rattle.aggregate_op.specs.Joined.{added, carried, greater, joined_part, joined_parts};
+ghost use Rattle.aggregate_op.specs.Joined.{lesser, part_width};
 ghost use Rattle.aggregate_op.specs.Stored.{IsStored};
 ghost use Rattle.aggregate_op.specs.Partials.{integer_in};
 
@@ -121,7 +122,8 @@ pub(crate) fn put_sum(
     high: i64,
     low: i64,
 ) -> Result<(), AllocError>
-    ensures { OnOk result (parts.new.items ≡ parts.old.items ++ Number count ∷ Number high ∷ Number low ∷ []) }
+    ensures { OnOk result (parts.new.items
+        ≡ parts.old.items ++ Number count ∷ Number high ∷ Number low ∷ []) }
 {
     parts.push(Value::Number(count))?;
     parts.push(Value::Number(high))?;
@@ -131,7 +133,8 @@ pub(crate) fn put_sum(
 
 // Adds the part of a sum of two parts, which stand at the front of two lists.
 fn put_joined_sum(parts: &mut Vec<Value>, left: &[Value], right: &[Value]) -> Result<(), AllocError>
-    ensures { OnOk result (parts.new.items ≡ parts.old.items ++ joined_part FoldOp.Sum left.now right.now) }
+    ensures { OnOk result (parts.new.items
+        ≡ parts.old.items ++ joined_part FoldOp.Sum left.now right.now) }
 {
     let (high, low) = carried(added(left, right, 1), added(left, right, 2));
     put_sum(parts, added(left, right, 0), high, low)
@@ -164,7 +167,8 @@ pub(crate) fn put_joined_parts(
     left: &[Value],
     right: &[Value],
 ) -> Result<(), AllocError>
-    ensures { OnOk result (parts.new.items ≡ parts.old.items ++ joined_parts ops.now left.now right.now) }
+    ensures { OnOk result (parts.new.items
+        ≡ parts.old.items ++ joined_parts ops.now left.now right.now) }
 {
     let Some((op, ops)) = ops.split_first() else {
         return Ok(());

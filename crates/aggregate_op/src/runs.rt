@@ -1,13 +1,16 @@
 //! What is known of a group by its rows.
-ghost use Rattle.std.specs.Prelude.{◌≡◌, ◌<◌, ◌≤◌, ◌+◌, ◌+ℤ◌, ◌^◌, ◌++◌, [], ◌∷◌, pos, map, length, IfOk, OnOk};
+ghost use Rattle.std.specs.Prelude.{◌≡◌, ◌<◌, ◌+◌, ◌+ℤ◌, ◌^◌, ◌++◌, [], ◌∷◌, pos, map, length};
+ghost use Rattle.std.specs.Prelude.{IfOk, OnOk};
 ghost use Rattle.std.specs.Int.{w64, saturate_signed};
 ghost use Rattle.std.specs.List.{AllByRecursion};
 ghost use Rattle.rows.specs.declared.value.Value.TheVariants.{Number};
 ghost use Rattle.rows.specs.Values.{column_of};
 ghost use Rattle.aggregate_op.specs.Joined.{carried};
-ghost use Rattle.aggregate_op.specs.Partials.{greatest, group_of, high_part, integer_in, known_of, least, low_part, most_rows, number, part_of};
+ghost use Rattle.aggregate_op.specs.Partials.{greatest, group_of, high_part, integer_in, known_of};
+ghost use Rattle.aggregate_op.specs.Partials.{least, low_part, most_rows, part_of};
 ghost use Rattle.aggregate_op.specs.Partials.{parts_of, unless_too_many};
-ghost use Rattle.aggregate_op.specs.Runs.{AreStoredAt, IsStoredColumn, column_values, parts_at, seen, sum_part};
+ghost use Rattle.aggregate_op.specs.Runs.{AreStoredAt, IsStoredColumn, column_values, parts_at};
+ghost use Rattle.aggregate_op.specs.Runs.{seen, sum_part};
 ghost use Rattle.aggregate_op.specs.Stored.{IsStored, IsStoredRow};
 
 use crate::groups::front;
@@ -58,7 +61,8 @@ fn greatest_of<'a>(rows: &[&'a Row], column: usize) -> &'a [Value]
 fn summed(sum: (i64, i64), values: &[Value], column: usize) -> (i64, i64)
     ensures sum { let number = integer_in (column_of values.now column) in
         Number result.0 ∷ Number result.1 ∷ []
-        ≡ carried (saturate_signed w64 (sum.0 +ℤ high_part number)) (saturate_signed w64 (sum.1 +ℤ low_part number)) }
+        ≡ carried (saturate_signed w64 (sum.0 +ℤ high_part number))
+        (saturate_signed w64 (sum.1 +ℤ low_part number)) }
     ensures stored { IsStored (column_of values.now column) }
 {
     let number = number_at(values, column);
@@ -71,7 +75,8 @@ fn summed(sum: (i64, i64), values: &[Value], column: usize) -> (i64, i64)
 // How often the sum of a column holds the unit, and what is left.
 fn sum_of(rows: &[&Row], column: usize) -> (i64, i64)
     ensures sum { length rows.now < most_rows
-        → Number result.0 ∷ Number result.1 ∷ [] ≡ sum_part (column_values column (map seen rows.now)) }
+        → Number result.0 ∷ Number result.1 ∷ []
+        ≡ sum_part (column_values column (map seen rows.now)) }
     ensures stored { IsStoredColumn FoldOp.Sum column (map seen rows.now) }
 {
     let mut sum = (0, 0);
@@ -84,7 +89,8 @@ fn sum_of(rows: &[&Row], column: usize) -> (i64, i64)
 // Adds the part of a sum of a column.
 fn put_sum_of(parts: &mut Vec<Value>, rows: &[&Row], column: usize) -> Result<(), AllocError>
     ensures added { OnOk result (length rows.now < most_rows
-        → parts.new.items ≡ parts.old.items ++ part_of FoldOp.Sum (column_values column (map seen rows.now))) }
+        → parts.new.items
+        ≡ parts.old.items ++ part_of FoldOp.Sum (column_values column (map seen rows.now))) }
     ensures stored { IsStoredColumn FoldOp.Sum column (map seen rows.now) }
 {
     let (high, low) = sum_of(rows, column);
@@ -100,7 +106,8 @@ fn put_part(
     column: usize,
 ) -> Result<(), AllocError>
     ensures added { OnOk result (length rows.now < most_rows
-        → parts.new.items ≡ parts.old.items ++ part_of op (column_values column (map seen rows.now))) }
+        → parts.new.items
+        ≡ parts.old.items ++ part_of op (column_values column (map seen rows.now))) }
     ensures stored { OnOk result (IsStoredColumn op column (map seen rows.now)) }
 {
     match op {
@@ -132,7 +139,8 @@ fn put_parts(
     put_parts(parts, alloc, ops, rows, column + 1)
 }
 
-// Adds the part of each op of rows. The parts of so many rows that they can't be told apart are lost.
+// Adds the part of each op of rows. The parts of so many rows that they can't be told apart are
+// lost.
 fn put_parts_of(
     parts: &mut Vec<Value>,
     alloc: Global,
