@@ -111,7 +111,8 @@ pub fn answer_folded_script(
 ) -> Result<FoldedAnswers, AllocError>
     requires queries { FitKept (database_columns db.now) kept.now (map question_of queries.now) }
     requires tables { All IsTable db.now }
-    requires folds { FoldQueries (database_columns db.now) kept.now folds.now (map question_of queries.now) }
+    requires folds { FoldQueries (database_columns db.now) kept.now folds.now
+        (map question_of queries.now) }
     ensures { IfOk result (AreAnswers
         (script_answers db.now kept.now folds.now (map question_of queries.now))) }
 {
