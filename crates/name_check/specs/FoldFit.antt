@@ -1,5 +1,6 @@
 -- Folds and kept relations that fit the queries of a script.
-use Rattle.std.specs.Prelude.{◌≡◌, ℕ, ◌+◌, List, [], ◌∷◌, drop, length, map, Option, IsSome, IfSome, ⊤}
+use Rattle.std.specs.Prelude.{◌≡◌, ℕ, ◌+◌, List, [], ◌∷◌, drop, length, map, Option, IsSome, IfSome}
+use Rattle.std.specs.Prelude.{⊤}
 use Rattle.rows.specs.declared.plain.LayoutColumn.{LayoutColumn}
 use Rattle.rows.specs.declared.plain.Relation.{Relation}
 use Rattle.rows.specs.Layouts.{column_type}
@@ -26,15 +27,19 @@ AreSummed (op ∷ ops) (type ∷ types) = AreSummed ops types
 -- the targets of a query are a value for each group value of the fold, and then one for each op
 pub record FitsFold (columns : List (List LayoutColumn)) (q : Question) (fold : Fold) : Type 0 where
   pub width : length q.targets ≡ fold.groups + length fold.ops
-  pub sums : AreSummed fold.ops (drop fold.groups (map (λ target. type_of target.expr (column_type (layout_in columns q))) q.targets))
+  pub sums : AreSummed fold.ops
+      (drop fold.groups
+      (map (λ target. type_of target.expr (column_type (layout_in columns q))) q.targets))
 
--- the folds of the statements from one on fit their queries, which may name what is kept before them
-abbrev pub FitFolds : List (List LayoutColumn) → List Kept → ℕ → List Question → List (Option FoldPlan) → Type 0
+-- the folds of the statements from one on fit their queries, which may name what was kept before
+abbrev pub FitFolds : List (List LayoutColumn) → List Kept → ℕ → List Question →
+    List (Option FoldPlan) → Type 0
 FitFolds columns kept statement [] [] = ⊤
 FitFolds columns kept statement [] (p ∷ ps) = ⊥
 FitFolds columns kept statement (q ∷ qs) [] = ⊥
 FitFolds columns kept statement (q ∷ qs) (p ∷ ps) =
-    IfSome p (λ plan. FitsFold columns q plan.fold) × FitFolds (columns_behind columns (kept_of kept statement)) kept (statement + 1) qs ps
+    IfSome p (λ plan. FitsFold columns q plan.fold) × FitFolds
+    (columns_behind columns (kept_of kept statement)) kept (statement + 1) qs ps
 
 -- the columns of the relations of a catalogue
 abbrev pub catalog_columns : List Relation → List (List LayoutColumn)
@@ -51,4 +56,5 @@ KeptFits catalog script kept = FitKept (catalog_columns catalog) kept (questions
 -- and so do the folds
 abbrev pub FoldsFit : List Relation → List Sentence → List (Option FoldPlan) → Type 0
 FoldsFit catalog script plans =
-    FitFolds (catalog_columns catalog) (kept_in (map heading_of catalog) script) 0 (questions_of catalog script) plans
+    FitFolds (catalog_columns catalog) (kept_in (map heading_of catalog) script) 0
+    (questions_of catalog script) plans

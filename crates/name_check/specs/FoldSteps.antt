@@ -12,8 +12,15 @@ abbrev pub no_fold : Fold
 no_fold = record { groups = 0; ops = []; places = [] }
 
 abbrev pub with_column : Fold → Option FoldOp → Fold
-with_column f None = record { groups = f.groups + 1; ops = f.ops; places = f.places ++ Group f.groups ∷ [] }
-with_column f (Some op) = record { groups = f.groups; ops = f.ops ++ op ∷ []; places = f.places ++ Op (length f.ops) ∷ [] }
+with_column f None =
+    record { groups = f.groups + 1; ops = f.ops; places = f.places ++ Group f.groups ∷ [] }
+with_column f (Some op) =
+    record {
+      groups = f.groups;
+      ops = f.ops ++ op ∷ [];
+      places =
+          f.places ++ Op (length f.ops) ∷ [];
+    }
 
 abbrev pub with_columns : Fold → List (Option FoldOp) → Fold
 with_columns f [] = f

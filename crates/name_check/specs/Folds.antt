@@ -1,5 +1,6 @@
 -- The fold of a statement with folds, and its sort keys.
-use Rattle.std.specs.Prelude.{ℕ, ◌+◌, Bool, List, [], ◌∷◌, map, codes, length, Option, Some, None, if◌then◌else◌}
+use Rattle.std.specs.Prelude.{ℕ, ◌+◌, Bool, List, [], ◌∷◌, map, codes, length, Option, Some, None}
+use Rattle.std.specs.Prelude.{if◌then◌else◌}
 use Rattle.std.specs.List.{flat_map}
 use Rattle.std.specs.Str.{bytes_eq}
 use Rattle.rows.specs.declared.plain.Relation.{Relation}
@@ -13,7 +14,8 @@ use Rattle.postquel_tokens.specs.Forms as phrase
 use Rattle.postquel_tokens.specs.Forms.{Wish, Sentence}
 use Rattle.rel_meaning.specs.declared.query.Var.{Var}
 use Rattle.name_check.specs.declared.heading.Heading.{Heading}
-use Rattle.name_check.specs.Sentences.{has_fold, head_in, heading_of, headings_after, sort_key, vars_of, wish_shown}
+use Rattle.name_check.specs.Sentences.{has_fold, head_in, heading_of, headings_after, sort_key}
+use Rattle.name_check.specs.Sentences.{vars_of, wish_shown}
 
 -- the op of that name; a script has these four
 abbrev pub op_named : List ℕ → FoldOp
@@ -55,12 +57,18 @@ places_behind groups ops (None ∷ columns) = Group groups ∷ places_behind (gr
 places_behind groups ops (Some op ∷ columns) = Op ops ∷ places_behind groups (ops + 1) columns
 
 abbrev pub fold_of : List (Option FoldOp) → Fold
-fold_of columns = record { groups = groups_in columns; ops = ops_in columns; places = places_behind 0 0 columns }
+fold_of columns =
+    record { groups = groups_in columns; ops = ops_in columns; places = places_behind 0 0 columns }
 
 -- a statement's fold and the sort keys of its answer, where it has a fold
 abbrev pub plan_in : List Heading → Sentence → Option FoldPlan
 plan_in headings s =
-    if has_fold s then Some (record { fold = fold_of (column_ops headings s); keys = map (sort_key (head_in headings s)) s.keys })
+    if has_fold s then Some
+    (record {
+      fold = fold_of (column_ops headings s);
+      keys =
+          map (sort_key (head_in headings s)) s.keys;
+    })
     else None
 
 -- for each statement of a script

@@ -31,13 +31,20 @@ kept_name into = option_map (λ i. i.name.text) into
 abbrev pub kept_as : List HeadColumn → ℕ → Option (List ℕ) → List Kept
 kept_as head statement None = []
 kept_as head statement (Some name) =
-    record { name = name; statement = statement; columns = map kept_column head; bounds = map (λ c. c.layout.bound) head } ∷ []
+    record {
+      name = name;
+      statement = statement;
+      columns = map kept_column head;
+      bounds =
+          map (λ c. c.layout.bound) head;
+    } ∷ []
 
 -- what the statements from this number on keep
 abbrev pub kept_from : List Heading → ℕ → List Sentence → List Kept
 kept_from headings statement [] = []
 kept_from headings statement (s ∷ ss) =
-    kept_as (head_in headings s) statement (kept_name s.kept) ++ kept_from (headings_after headings s) (statement + 1) ss
+    kept_as (head_in headings s) statement (kept_name s.kept) ++ kept_from
+    (headings_after headings s) (statement + 1) ss
 
 -- what the statements of a script keep
 abbrev pub kept_in : List Heading → List Sentence → List Kept

@@ -14,7 +14,14 @@ abbrev pub header_by : Asked → List (List ℕ)
 header_by a = map (λ c. c.name) a.head
 
 abbrev pub kept_named : List HeadColumn → ℕ → List ℕ → Kept
-kept_named head statement name = record { name = name; statement = statement; columns = map kept_column head; bounds = map (λ c. c.layout.bound) head }
+kept_named head statement name =
+    record {
+      name = name;
+      statement = statement;
+      columns = map kept_column head;
+      bounds =
+          map (λ c. c.layout.bound) head;
+    }
 
 abbrev pub kept_by : ℕ → List Asked → List Kept
 kept_by statement [] = []
@@ -27,4 +34,5 @@ IsNew kept into = IfSome into (λ name. place_named name kept ≡ None)
 -- nor is any later one
 abbrev pub AreNew : List Kept → ℕ → List Asked → Type 0
 AreNew kept statement [] = ⊤
-AreNew kept statement (a ∷ others) = IsNew kept a.into × AreNew (kept ++ kept_as a.head statement a.into) (statement + 1) others
+AreNew kept statement (a ∷ others) =
+    IsNew kept a.into × AreNew (kept ++ kept_as a.head statement a.into) (statement + 1) others

@@ -4,8 +4,8 @@ ghost use Rattle.postquel.specs.Reading.{IsLexed};
 ghost use Rattle.name_check.specs.Sentences.{HasNumbers};
 
 use crate::{
-    FoldOp, FoldPlace, FoldPlan, Header, Kept, KeptList, folds_of, has_fold, has_into, headers_of,
-    kept_of, machine_of, numbers_fit, resolve,
+    FoldOp, FoldPlace, FoldPlan, FoldTable, Header, HeaderList, Kept, KeptList, folds_of, has_fold,
+    has_into, headers_of, kept_of, machine_of, numbers_fit, resolve,
 };
 use lists::Sequence;
 use postquel::{Script, lex, parse};
@@ -116,12 +116,12 @@ fn each_script_has_its_first_fault_or_its_queries(rt: HostRuntime) -> Result<(),
     Ok(())
 }
 
-// Each line is a script, then for each statement its fold and header, and what the script keeps.
+// Each line is a script, then the folds of its statements, their headers, and what they keep.
 const LISTED: &str =
-    "retrieve (n = count(A.x), A.y, m = min(A.x), z = A.b) sort by m using >, y \\g -> ; groups 2 ops Count Min places o0 g0 o1 g1 keys 2> 1<; header n y m z
-retrieve (A.all, most = max(A.x)) \\g -> ; groups 3 ops Max places g0 g1 g2 o0 keys; header x y b most
-retrieve (s = sum(A.x), c = count(A.y)) sort by c \\g retrieve (a.all, n = 1) from a in A sort by y \\g -> ; groups 0 ops Sum Count places o0 o1 keys 1<; header s c; no fold; header x y b n
-retrieve into K (A.all, n = A.x * 3) \\g retrieve into L (K.n, m = K.x + K.n) \\g retrieve (k.all, low = min(L.m)) from k in L \\g -> ; no fold; header x y b n; no fold; header n m; groups 2 ops Min places g0 g1 o0 keys; header n m low; keeps K of 0: x Int4 2147483648 y Text 0 b Bool 0 n Int4 6442450944; keeps L of 1: n Int4 6442450944 m Int4 8589934592";
+    "retrieve (n = count(A.x), A.y, m = min(A.x), z = A.b) sort by m using >, y \\g -> groups 2 ops Count Min places o0 g0 o1 g1 keys 2> 1<;header n y m z;
+retrieve (A.all, most = max(A.x)) \\g -> groups 3 ops Max places g0 g1 g2 o0 keys;header x y b most;
+retrieve (s = sum(A.x), c = count(A.y)) sort by c \\g retrieve (a.all, n = 1) from a in A sort by y \\g -> groups 0 ops Sum Count places o0 o1 keys 1<;no fold;header s c;header x y b n;
+retrieve into K (A.all, n = A.x * 3) \\g retrieve into L (K.n, m = K.x + K.n) \\g retrieve (k.all, low = min(L.m)) from k in L \\g -> no fold;no fold;groups 2 ops Min places g0 g1 o0 keys;header x y b n;header n m;header n m low;K of 0: x Int4 y Text b Bool n Int4 within 2147483648 0 0 6442450944;L of 1: n Int4 m Int4 within 6442450944 8589934592;";
 
 fn spelled(alloc: Global, name: &Text) -> Result<String, TextErr> {
     let mut text = String::new(alloc);
@@ -169,13 +169,13 @@ fn keys_text(alloc: Global, keys: &[SortKey]) -> Result<String, TextErr> {
 
 fn fold_text(alloc: Global, plan: &Option<FoldPlan>) -> Result<String, TextErr> {
     let Some(plan) = plan else {
-        return Ok(format!(in alloc; "no fold")?);
+        return Ok(format!(in alloc; "no fold;")?);
     };
     let groups = plan.fold.groups;
     let ops = ops_text(alloc, plan.fold.ops.items())?;
     let places = places_text(alloc, plan.fold.places.items())?;
     let keys = keys_text(alloc, plan.keys.items())?;
-    Ok(format!(in alloc; "groups {groups} ops{ops} places{places} keys{keys}")?)
+    Ok(format!(in alloc; "groups {groups} ops{ops} places{places} keys{keys};")?)
 }
 
 fn header_text(alloc: Global, header: &Header) -> Result<String, TextErr> {
@@ -184,58 +184,80 @@ fn header_text(alloc: Global, header: &Header) -> Result<String, TextErr> {
         let name = spelled(alloc, name)?;
         text = format!(in alloc; "{text} {name}")?;
     }
+    text.push_str(";")?;
     Ok(text)
 }
 
-fn column_text(
-    alloc: Global,
-    text: String,
-    column: &Column,
-    bound: u64,
-) -> Result<String, TextErr> {
-    let name = spelled(alloc, &column.name)?;
-    Ok(format!(in alloc; "{text} {name} {:?} {bound}", column.col_type)?)
-}
-
-fn one_kept_text(alloc: Global, kept: &Kept) -> Result<String, TextErr> {
-    let name = spelled(alloc, &kept.name)?;
-    let mut text = format!(in alloc; "; keeps {name} of {}:", kept.statement)?;
-    for (column, bound) in kept.columns.items().iter().zip(kept.bounds.items().iter()) {
-        text = column_text(alloc, text, column, *bound)?;
+fn columns_text(alloc: Global, columns: &[Column]) -> Result<String, TextErr> {
+    let mut text = String::new(alloc);
+    for column in columns {
+        let name = spelled(alloc, &column.name)?;
+        text = format!(in alloc; "{text} {name} {:?}", column.col_type)?;
     }
     Ok(text)
 }
 
-fn kept_text(alloc: Global, list: &KeptList) -> Result<String, TextErr> {
+fn bounds_text(alloc: Global, bounds: &[u64]) -> Result<String, TextErr> {
     let mut text = String::new(alloc);
-    for kept in list.items() {
+    for bound in bounds {
+        text = format!(in alloc; "{text} {bound}")?;
+    }
+    Ok(text)
+}
+
+fn one_kept_text(alloc: Global, kept: &Kept) -> Result<String, TextErr> {
+    let name = spelled(alloc, &kept.name)?;
+    let columns = columns_text(alloc, kept.columns.items())?;
+    let bounds = bounds_text(alloc, kept.bounds.items())?;
+    Ok(format!(in alloc; "{name} of {}:{columns} within{bounds};", kept.statement)?)
+}
+
+fn folds_text(alloc: Global, plans: &[Option<FoldPlan>]) -> Result<String, TextErr> {
+    let mut text = String::new(alloc);
+    for plan in plans {
+        text.push_str(fold_text(alloc, plan)?.as_str())?;
+    }
+    Ok(text)
+}
+
+fn headers_text(alloc: Global, headers: &[Header]) -> Result<String, TextErr> {
+    let mut text = String::new(alloc);
+    for header in headers {
+        text.push_str(header_text(alloc, header)?.as_str())?;
+    }
+    Ok(text)
+}
+
+fn kept_text(alloc: Global, list: &[Kept]) -> Result<String, TextErr> {
+    let mut text = String::new(alloc);
+    for kept in list {
         text.push_str(one_kept_text(alloc, kept)?.as_str())?;
     }
     Ok(text)
 }
 
-fn statement_text(
+// The folds of a script, its headers, and what it keeps.
+fn parts(
     alloc: Global,
-    plan: &Option<FoldPlan>,
-    header: &Header,
-) -> Result<String, TextErr> {
-    let fold = fold_text(alloc, plan)?;
-    let header = header_text(alloc, header)?;
-    Ok(format!(in alloc; "; {fold}; {header}")?)
+    script: &Script,
+    catalog: &Catalog,
+) -> Result<(FoldTable, HeaderList, KeptList), TextErr>
+    requires { All HasNumbers (program_of script.now).sentences }
+{
+    resolve(alloc, script, catalog)?;
+    let plans = folds_of(alloc, script, catalog)?;
+    let headers = headers_of(alloc, script, catalog)?;
+    let kept = kept_of(alloc, script, catalog)?;
+    Ok((plans, headers, kept))
 }
 
 fn listed(alloc: Global, text: &[u8]) -> Result<String, TextErr> {
     let script = read(alloc, text)?;
     let catalog = catalog(alloc)?;
-    resolve(alloc, &script, &catalog)?;
-    let plans = folds_of(alloc, &script, &catalog)?;
-    let headers = headers_of(alloc, &script, &catalog)?;
-    let mut text = String::new(alloc);
-    for (plan, header) in plans.items().iter().zip(headers.items().iter()) {
-        text.push_str(statement_text(alloc, plan, header)?.as_str())?;
-    }
-    let kept = kept_text(alloc, &kept_of(alloc, &script, &catalog)?)?;
-    text.push_str(kept.as_str())?;
+    let (plans, headers, kept) = parts(alloc, &script, &catalog)?;
+    let mut text = folds_text(alloc, plans.items())?;
+    text.push_str(headers_text(alloc, headers.items())?.as_str())?;
+    text.push_str(kept_text(alloc, kept.items())?.as_str())?;
     Ok(text)
 }
 

@@ -6,5 +6,6 @@ use Rattle.name_check.proofs.script.found_behind.Given as goal
 -- what is left to do gives what the whole gives
 abbrev pub invariant-loop-place : goal.invariant-loop-place
 invariant-loop-place l =
-    script_checked l.headings.items (map view_of l.all.items) (map sentence_of (drop l.place l.script.statements)) ≡
+    script_checked l.headings.items (map view_of l.all.items)
+    (map sentence_of (drop l.place l.script.statements)) ≡
     script_checked l.initial.headings.items [] (map sentence_of l.script.statements)
