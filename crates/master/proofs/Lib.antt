@@ -12,3 +12,4 @@ pub mod Begins
 pub mod Releases
 pub mod Progress
 pub mod Answered
+pub mod SampleRuns

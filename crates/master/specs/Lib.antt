@@ -12,3 +12,4 @@ pub mod Finish
 pub mod Starts
 pub mod Release
 pub mod Ends
+pub mod SampleRuns

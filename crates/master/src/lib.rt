@@ -6,10 +6,16 @@ mod control;
 mod decide;
 mod next;
 mod places;
+#[cfg(test)]
+mod random_walk;
 mod release;
 mod room;
+#[cfg(test)]
+mod samples;
 mod slot;
 mod start;
+#[cfg(test)]
+mod tests;
 
 pub use answers::History;
 pub use control::{Control, RunName};
