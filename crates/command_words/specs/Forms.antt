@@ -11,6 +11,8 @@ use Rattle.clap.specs.Faults.{fault_of}
 use Rattle.clap.specs.Simple.{App, matches_of}
 use Rattle.clap.specs.Walk.{Row, first_of}
 use Rattle.command_words.specs.Commands.{Text, file_app, generation_app, job_app, plans_app}
+use Rattle.command_words.specs.declared.reading.Form.{Form}
+use Rattle.command_words.specs.declared.reading.Form.TheVariants as form
 use Rattle.command_words.specs.declared.request.FileNames.{FileNames}
 use Rattle.command_words.specs.declared.request.Generation.{Generation}
 use Rattle.command_words.specs.declared.request.Job.{Job}
@@ -172,17 +174,29 @@ file_form words = form_with file_app files_by words
 unfoldable pub generation_form : List Text → Option Generation
 generation_form words = form_with generation_app generation_by words
 
--- by the first word
-abbrev pub form_named : Text → List Text → Option Asked
-form_named form words =
-    if bytes_eq form (codes "run") then option_map run (job_form words)
-    else if bytes_eq form (codes "alone") then option_map alone (job_form words)
-    else if bytes_eq form (codes "explain") then option_map explain (plans_form words)
-    else if bytes_eq form (codes "check") then option_map check (file_form words)
-    else if bytes_eq form (codes "gen") then option_map gen (generation_form words)
+-- the form that a word names
+unfoldable pub form_called : Text → Option Form
+form_called word =
+    if bytes_eq word (codes "run") then Some form.Run
+    else if bytes_eq word (codes "alone") then Some form.Alone
+    else if bytes_eq word (codes "explain") then Some form.Explain
+    else if bytes_eq word (codes "check") then Some form.Check
+    else if bytes_eq word (codes "gen") then Some form.Gen
     else None
+
+-- what the words ask for as words of a form
+abbrev pub asked_by : Form → List Text → Option Asked
+asked_by form.Run words = option_map run (job_form words)
+asked_by form.Alone words = option_map alone (job_form words)
+asked_by form.Explain words = option_map explain (plans_form words)
+asked_by form.Check words = option_map check (file_form words)
+asked_by form.Gen words = option_map gen (generation_form words)
+
+abbrev pub asked_if : Option Form → List Text → Option Asked
+asked_if None words = None
+asked_if (Some f) words = asked_by f words
 
 -- what the words ask for, where they are of a form
 abbrev pub form_of : List Text → Option Asked
 form_of [] = None
-form_of (form ∷ others) = form_named form (form ∷ others)
+form_of (word ∷ others) = asked_if (form_called word) (word ∷ others)

@@ -101,27 +101,65 @@ fn gen_request<'a>(alloc: Global, words: &'a [String]) -> Result<Option<Request<
     }
 }
 
-// By the first word.
-fn request_named<'a>(
+// The form that a word names.
+#[derive(Clone, Copy)]
+pub(crate) enum Form {
+    Run,
+    Alone,
+    Explain,
+    Check,
+    Gen,
+}
+
+#[tactic(auto, unfolding(crate::specs::Forms::form_called))]
+fn form_called(word: &str) -> Option<Form>
+    ensures { result ≡ spec.form_called word.now }
+{
+    if word == "run" {
+        Some(Form::Run)
+    } else if word == "alone" {
+        Some(Form::Alone)
+    } else if word == "explain" {
+        Some(Form::Explain)
+    } else if word == "check" {
+        Some(Form::Check)
+    } else if word == "gen" {
+        Some(Form::Gen)
+    } else {
+        None
+    }
+}
+
+// What the words ask for as words of a form.
+fn request_of_form<'a>(
     alloc: Global,
-    form: &str,
+    form: Form,
     words: &'a [String],
 ) -> Result<Option<Request<'a>>, NoMemory>
     ensures { IfOk result (λ r. option_map request_of r
-        ≡ spec.form_named form.now (map string_bytes words.now)) }
+        ≡ spec.asked_by form (map string_bytes words.now)) }
 {
-    if form == "run" {
-        run_request(alloc, words)
-    } else if form == "alone" {
-        alone_request(alloc, words)
-    } else if form == "explain" {
-        explain_request(alloc, words)
-    } else if form == "check" {
-        check_request(alloc, words)
-    } else if form == "gen" {
-        gen_request(alloc, words)
-    } else {
-        Ok(None)
+    match form {
+        Form::Run => run_request(alloc, words),
+        Form::Alone => alone_request(alloc, words),
+        Form::Explain => explain_request(alloc, words),
+        Form::Check => check_request(alloc, words),
+        Form::Gen => gen_request(alloc, words),
+    }
+}
+
+// What the words ask for, where the first one names a form.
+fn request_named<'a>(
+    alloc: Global,
+    form: Option<Form>,
+    words: &'a [String],
+) -> Result<Option<Request<'a>>, NoMemory>
+    ensures { IfOk result (λ r. option_map request_of r
+        ≡ spec.asked_if form (map string_bytes words.now)) }
+{
+    match form {
+        Some(form) => request_of_form(alloc, form, words),
+        None => Ok(None),
     }
 }
 
@@ -138,8 +176,8 @@ fn request_named<'a>(
 pub fn read_words<'a>(alloc: Global, words: &'a [String]) -> Result<Option<Request<'a>>, NoMemory>
     ensures { IfOk result (λ r. option_map request_of r ≡ spec.form_of (map string_bytes words.now)) }
 {
-    let Some(form) = words.first() else {
+    let Some(word) = words.first() else {
         return Ok(None);
     };
-    request_named(alloc, form.as_str(), words)
+    request_named(alloc, form_called(word.as_str()), words)
 }
