@@ -1,0 +1,11 @@
+use Rattle.std.proofs.Common.{rules, ap, ◌≡◌, ◌∙◌}
+use Rattle.std.proofs.lemmas.Result.{IfOk-weaker}
+use Rattle.clap.specs.Walk.{rule_of}
+use Rattle.clap.specs.Simple.{app_of, with_rule}
+use Rattle.command_words.specs.Commands.{flag}
+use Rattle.command_words.proofs.command.with_flag.Goals as goal
+
+pub returns : goal.returns
+returns c =
+    let is : rule_of c.action-flag.result ≡ flag c.args.id.now = search rules in
+    IfOk-weaker c.arg.result _ _ (λ r h. h.shape (search rules) ∙ ap (with_rule (app_of c.args.command)) is) c.arg.ensures
