@@ -1,14 +1,22 @@
 #!/usr/bin/env python3
-"""A walk of random calls on the control of a run by five backends, with the answers that the definitions give.
+"""Calls on the control of a run, with the answers and the events that the definitions give.
 
-Usage: control_walk.py SEED STEPS
+Usage: control_walk.py SEED STEPS     a walk of so many random calls by five backends
+       control_walk.py FILE           the calls of each block of a file, for a test of master
 
-Everything is computed from the list of events alone, apart from the program. The run is that of the tests of master: 12
-pages, 9 entries, and one position that reads what the pages give; 6 backends, 4 drives, batches of 4; 3 backends after the
-first finish. First come the calls, one a line, each with its answer, and then the events.
+Everything is computed from the list of events alone, apart from the program. A block begins with a line that names the
+run, as in the tests of master:
+
+    pages 20 20 9000 + entries 9 1 150 on 3 3 8 then 4 gives 2
+
+Two scans, each of its own statement: positions, pages and time; backends, drives and batch of the machine; its backends
+after the first finish; how many answers there are at the end. `trio` in place of the scans names 12 pages, 9 entries, and
+one position that reads what the pages give; `none` names no fragment. The calls follow, one a line. What is printed is
+each block with the answers behind the calls, and then the events.
 """
 
 import random
+import re
 import sys
 
 from random_walk import ROLES, Scan, is_held, is_idle, out
@@ -18,7 +26,9 @@ DRIVES = 4
 BACKENDS = 6
 STEPS = [(1, 3)]
 # positions, whether they are pages, what is read, D and T
-FRAGMENTS = [(12, True, [], 12, 96), (9, False, [], 1, 150), (1, True, [0], 0, 30)]
+TRIO = [(12, True, [], 12, 96), (9, False, [], 1, 150), (1, True, [0], 0, 30)]
+FRAGMENTS = TRIO
+TRIO_LINE = "trio on 6 4 4 then 3 gives 2"
 KINDS = ["next", "next", "next", "claim", "claim", "claim", "settle", "settle", "settle", "leave", "finish", "uncollect"]
 
 
@@ -263,11 +273,110 @@ def event_text(event):
     return " ".join([name] + [str(part) for part in event[1:]])
 
 
+def claimed(history, f, role):
+    scan, mine = scan_of(history, f), moves(history, f)
+    assert is_held(mine, role) and not out(mine, role)
+    if scan.pending(mine) is not None:
+        return "hold"
+    places = scan.left(mine, role)[:BATCH]
+    if not places:
+        return "leave"
+    history.append(("claim", f, role, places))
+    return str(places)
+
+
+def settled(history, f, role, count):
+    assert count <= len(out(moves(history, f), role)) > 0
+    history.append(("settle", f, role, count))
+    if is_full(history, f):
+        return "finished"
+    cut = divide_due(history)
+    return "more" if cut is None else f"cut {cut}"
+
+
+def finished(history, f):
+    assert is_collecting(history, f)
+    chosen = decision(history + [("finish", f, [])])
+    history.append(("finish", f, chosen))
+    divide_due(history)
+    return text_of(chosen)
+
+
+def left(history, f, role):
+    mine = moves(history, f)
+    assert is_held(mine, role) and not out(mine, role)
+    history.append(("leave", f, role))
+    divide_due(history)
+    return "left"
+
+
+def undone(history, f):
+    assert is_collecting(history, f)
+    history.append(("uncollect", f))
+    return "undone"
+
+
+def released(history):
+    for f in range(len(FRAGMENTS)):
+        for role in ROLES:
+            if out(moves(history, f), role):
+                settled(history, f, role, 0)
+            if is_held(moves(history, f), role):
+                left(history, f, role)
+        if is_collecting(history, f):
+            undone(history, f)
+    return "released"
+
+
+class Backend:
+    """Stands for a choice: the one backend of a call."""
+
+    def __init__(self, number):
+        self.number = number
+
+    def randrange(self, _most):
+        return self.number
+
+
+def answer(history, call):
+    name, *rest = call.split()
+    numbers = [int(word) for word in rest]
+    if name == "next":
+        return next_job(history, Backend(numbers[0])).split(" = ")[1]
+    calls = {"claim": claimed, "settle": settled, "finish": finished, "leave": left, "uncollect": undone, "release": released}
+    return calls[name](history, *numbers)
+
+
+def name_run(line):
+    """Sets the run that the first line of a block names."""
+    global BATCH, DRIVES, BACKENDS, STEPS, FRAGMENTS
+    words = line.split()
+    place = words.index("on")
+    BACKENDS, DRIVES, BATCH = (int(word) for word in words[place + 1 : place + 4])
+    STEPS = [(1, int(words[words.index("then") + 1]))]
+    scans = re.findall(r"(pages|entries) (\d+) (\d+) (\d+)", line)
+    FRAGMENTS = [(int(n), kind == "pages", [], int(d), int(t)) for kind, n, d, t in scans]
+    if words[0] == "trio":
+        FRAGMENTS = TRIO
+
+
+def play(block):
+    first, *calls = block.strip().split("\n")
+    name_run(first)
+    history = []
+    history.append(("begin", decision(history)))
+    lines = [f"{call} = {answer(history, call)}" for call in calls]
+    return "\n".join([first] + lines + [event_text(event) for event in history])
+
+
 def main():
+    if len(sys.argv) == 2:
+        with open(sys.argv[1], encoding="utf-8") as file:
+            blocks = file.read().strip().split("\n\n")
+        print("\n\n".join(play(block) for block in blocks))
+        return
     lines, history = walk(int(sys.argv[1]), int(sys.argv[2]))
-    print("\n".join(lines))
-    print()
-    print("\n".join(event_text(event) for event in history))
+    print("\n".join([TRIO_LINE] + lines + [event_text(event) for event in history]))
 
 
 if __name__ == "__main__":

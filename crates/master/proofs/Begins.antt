@@ -20,7 +20,7 @@ use Rattle.adjust_protocol.specs.Moves.{IsDue}
 use Rattle.page_partition.specs.Scan.{out_of}
 use Rattle.page_partition.specs.declared.table.Mark.{Mark}
 use Rattle.io_cpu_scheduler.specs.Decisions.{decision}
-use Rattle.io_cpu_scheduler.specs.Limits.{IsLoad, IsStep}
+use Rattle.io_cpu_scheduler.specs.Limits.{IsLoad, IsMachine, IsStep}
 use Rattle.io_cpu_scheduler.specs.Sensible.{IsSensible}
 use Rattle.io_cpu_scheduler.specs.Steps.{machine_at}
 use Rattle.io_cpu_scheduler.specs.declared.load.Decision.{Decision}
@@ -32,15 +32,15 @@ use Rattle.history.specs.State.{decision_after}
 use Rattle.history.specs.declared.event.Event.{Event}
 use Rattle.history.specs.declared.event.Event.TheVariants as event
 use Rattle.history.proofs.Follows.{follows_begin}
-use Rattle.master.specs.Gives.{AllGiven, AreTwo, CanGive, IsCut, ready_in, running_in}
+use Rattle.master.specs.Gives.{AllGiven, AreTwo, CanGive, IsCut, ready_in, running_in, IsDecided, CanDecide}
 use Rattle.master.specs.Kind.{Slotted, is_ended, is_running, scan_of}
 use Rattle.master.specs.Ledger.{HasAnswerRoom, HasAsks, IsKept, IsSlotOf, Tools, at, need, no_slot, outs_below, scans, unended}
 use Rattle.master.specs.Content.{HasContent}
 use Rattle.master.proofs.Contents.{none_there}
-use Rattle.master.proofs.Finishes.{AreBase, IsDecided, IsGiving, kept_given}
+use Rattle.master.proofs.Finishes.{AreBase, IsGiving, kept_given}
 use Rattle.master.proofs.Gave.{Unbegun, to_given}
 use Rattle.master.proofs.Given.{unbegun_idle}
-use Rattle.master.proofs.Loads.{AreSlots, decided, decision_in_order}
+use Rattle.master.proofs.Loads.{AreSlots, decided, decision_in_order, loads_fit, takes}
 use Rattle.master.proofs.Needs.{is_rule}
 use Rattle.master.specs.Meaning.{Meaning, outline_of, run_of}
 use Rattle.master.specs.Starts.{start_of, starts, starts_from}
@@ -210,6 +210,18 @@ none_ended (x ∷ xs) each =
 no_cut : (m : Meaning) (d : Decision) (divide : Option Event) → IsCut (starts m.fragments) d divide → divide ≡ None
 no_cut m d None cut = refl
 no_cut m d (Some e) cut = absurd (true≢false (sym cut.6 ∙ still_none m cut.0 cut.4))
+
+pub start_decides : (m : Meaning) (mach : Machine) → AreWellFormed (pieces_of m.fragments) → IsMachine mach → CanDecide mach (starts m.fragments)
+start_decides m mach formed machine = record {
+  one = start_one m;
+  loads = loads_fit (run_of m) [] (starts m.fragments) (start_are m) (start_ordered m formed);
+  limits = machine;
+  takes = λ d sensible. (
+    takes (run_of m) [] (starts m.fragments) mach d.first (start_are m) machine (start_can m) sensible.first,
+    takes (run_of m) [] (starts m.fragments) mach d.second (start_are m) machine (start_can m) sensible.second,
+    start_two m mach d sensible,
+  );
+}
 
 pub begin_given : (m : Meaning) (slots' : List Slotted) (d : Decision) (divide : Option Event) → AllGiven (starts m.fragments) d divide slots' → AllGiven (starts m.fragments) d None slots'
 begin_given m slots' d divide given' = subst (λ o. AllGiven (starts m.fragments) d o slots') (no_cut m d divide given'.cut) given'

@@ -27,7 +27,7 @@ use Rattle.history.proofs.Few.{collecting_runs, one_beside}
 use Rattle.history.proofs.Follows.{begun_collecting, follows_begin, follows_finish, follows_finish_cut, open_of, whole_of}
 use Rattle.master.specs.Boards.{collected_as, with_board}
 use Rattle.master.specs.Finish.{ended_at, finish_events}
-use Rattle.master.specs.Gives.{AllGiven, AreTwo, CanGive, CanTake, GivesOne, GivesSlot, IsCut, cut_for, finished, ready_in, running_in}
+use Rattle.master.specs.Gives.{AllGiven, AreTwo, CanDecide, CanGive, CanTake, GivesOne, GivesSlot, IsCut, IsDecided, cut_for, finished, ready_in, running_in}
 use Rattle.master.specs.Content.{HasContent, IsValue}
 use Rattle.master.specs.Kind.{Slotted, is_ended, is_running, is_waiting, scan_of}
 use Rattle.master.specs.Kind as kind
@@ -108,12 +108,6 @@ pub record IsGiving (m : Meaning) (o : ℕ → Option ℕ) (fin : ℕ → Bool) 
   pub begun_as : (f : ℕ) → begun h f ≡ earlier_of (o f) (given t.decision f)
   pub finished_as : (f : ℕ) → is_finished h f ≡ fin f
   pub finishes_as : t.finishes ≡ finishes h
-
--- the decision is one over these fragments
-pub record IsDecided (mach : Machine) (slots : List Slotted) (d : Decision) : Type 0 where
-  pub value : d ≡ decision mach (running_in slots) (ready_in slots)
-  pub sensible : IsSensible mach (running_in slots) (ready_in slots) d
-  pub goes_on : All (λ load. HasPart d load.fragment) (running_in slots)
 
 given_fed : (m : Meaning) (f : ℕ) (slots slots' : List Slotted) (d : Decision) (divide : Option Event) → AreOrdered (run_of m) → length slots ≡ length (run_of m).fragments → (at slots f).inputs ≡ (outline (run_of m) f).inputs → AllGiven slots d divide slots' → f < length slots
     → AreFed slots (at slots f).inputs → AreFed slots' (at slots f).inputs
@@ -250,7 +244,7 @@ ended_slots m log slots t g v n = record {
       record { kind = b.kind; inputs = b.inputs; load = b.load; has_begun = ap is_some (earlier_nothing (begun (reverse log) f)) ∙ b.has_begun; has_ended = b.has_ended };
 }
 
-pub ended_one : (m : Meaning) (log : List Event) (slots : List Slotted) (t : Tools) (g : ℕ) (v : Table) → IsEnding m log slots t g → length (running_in (ended_at slots g v)) ≤ 1
+ended_one : (m : Meaning) (log : List Event) (slots : List Slotted) (t : Tools) (g : ℕ) (v : Table) → IsEnding m log slots t g → length (running_in (ended_at slots g v)) ≤ 1
 ended_one m log slots t g v n =
     let k = n.kept in
     let inside = within_run m log slots t g k n.inside in
@@ -259,7 +253,7 @@ ended_one m log slots t g v n =
     subst (λ ls. length ls ≤ 1) (sym (running_are (run_of m) (event.Finish g nothing ∷ reverse log) (ended_at slots g v) (ended_slots m log slots t g v n)))
     (one_beside (run_of m) (reverse log) g k.within k.fits.follows.legal inside (told ∙ n.collecting))
 
-pub ended_loads : (m : Meaning) (log : List Event) (slots : List Slotted) (t : Tools) (g : ℕ) (v : Table) → IsEnding m log slots t g → All IsLoad (running_in (ended_at slots g v)) × All IsLoad (ready_in (ended_at slots g v))
+ended_loads : (m : Meaning) (log : List Event) (slots : List Slotted) (t : Tools) (g : ℕ) (v : Table) → IsEnding m log slots t g → All IsLoad (running_in (ended_at slots g v)) × All IsLoad (ready_in (ended_at slots g v))
 ended_loads m log slots t g v n = loads_fit (run_of m) (event.Finish g nothing ∷ reverse log) (ended_at slots g v) (ended_slots m log slots t g v n) n.kept.ordered
 
 -- the machine at the finish
@@ -267,7 +261,7 @@ machine_is : (m : Meaning) (log : List Event) (slots : List Slotted) (t : Tools)
 machine_is m log slots t g n k e =
     ap (λ x. machine_at x t.steps n) k.machine ∙ ap (λ xs. machine_at m.machine xs n) k.steps ∙ ap (λ q. machine_at m.machine m.steps q) (e ∙ ap (λ q. q + 1) k.finished)
 
-pub ended_machine : (m : Meaning) (log : List Event) (slots : List Slotted) (t : Tools) (g n : ℕ) (mach : Machine) → IsKept m log slots t → n ≡ t.finishes + 1 → mach ≡ machine_at t.machine t.steps n → IsMachine mach
+ended_machine : (m : Meaning) (log : List Event) (slots : List Slotted) (t : Tools) (g n : ℕ) (mach : Machine) → IsKept m log slots t → n ≡ t.finishes + 1 → mach ≡ machine_at t.machine t.steps n → IsMachine mach
 ended_machine m log slots t g n mach k e is = subst IsMachine (sym (is ∙ machine_is m log slots t g n k e)) (machine_fits (run_of m) (event.Finish g nothing ∷ reverse log) k.within)
 
 ended_unbegun : (m : Meaning) (log : List Event) (slots : List Slotted) (t : Tools) (g : ℕ) (v : Table) → IsEnding m log slots t g → (f : ℕ) → f < length (ended_at slots g v) → Unbegun (at (ended_at slots g v) f)
@@ -283,7 +277,7 @@ going_one m log slots t g n =
     let le = get_or-le-sum_by w slots g no_slot n.inside in
     omega arith
 
-pub ended_can : (m : Meaning) (log : List Event) (slots : List Slotted) (t : Tools) (g : ℕ) (v : Table) → IsEnding m log slots t g → (f : ℕ) → f < length (ended_at slots g v) → is_ended (at (ended_at slots g v) f) ≡ false → CanGive (at (ended_at slots g v) f)
+ended_can : (m : Meaning) (log : List Event) (slots : List Slotted) (t : Tools) (g : ℕ) (v : Table) → IsEnding m log slots t g → (f : ℕ) → f < length (ended_at slots g v) → is_ended (at (ended_at slots g v) f) ≡ false → CanGive (at (ended_at slots g v) f)
 ended_can m log slots t g v n f lt going = record {
   going = going;
   room = ended_each (λ q s. is_ended s ≡ false → 0 < (scan_of s).scan.room) slots g v n.inside (λ e. absurd (let x : true ≡ false = e in cc))
@@ -307,7 +301,7 @@ still_running slots g f v lt e =
       | inr ne ↦ (ne, sym (ap is_running (ended_other slots g f v ne)) ∙ e)
     ]
 
-pub ended_two : (m : Meaning) (log : List Event) (slots : List Slotted) (t : Tools) (g : ℕ) (v : Table) (mach : Machine) (d : Decision) → IsEnding m log slots t g → IsMachine mach → IsSensible mach (running_in (ended_at slots g v)) (ready_in (ended_at slots g v)) d
+ended_two : (m : Meaning) (log : List Event) (slots : List Slotted) (t : Tools) (g : ℕ) (v : Table) (mach : Machine) (d : Decision) → IsEnding m log slots t g → IsMachine mach → IsSensible mach (running_in (ended_at slots g v)) (ready_in (ended_at slots g v)) d
     → AreTwo (ended_at slots g v) d
 ended_two m log slots t g v mach d n machine sensible =
     let are = ended_slots m log slots t g v n in
@@ -329,9 +323,23 @@ ended_two m log slots t g v mach d n machine sensible =
           (λ e. sp.0 (sym e)) (λ e. sq.0 (sym e)) (λ e. absurd (omega arith));
     }
 
-pub ended_takes : (m : Meaning) (log : List Event) (slots : List Slotted) (t : Tools) (g : ℕ) (v : Table) (mach : Machine) (o : Option Part) → IsEnding m log slots t g → IsMachine mach → IfSome o (IsPartOf mach (running_in (ended_at slots g v) ++ ready_in (ended_at slots g v)))
+ended_takes : (m : Meaning) (log : List Event) (slots : List Slotted) (t : Tools) (g : ℕ) (v : Table) (mach : Machine) (o : Option Part) → IsEnding m log slots t g → IsMachine mach → IfSome o (IsPartOf mach (running_in (ended_at slots g v) ++ ready_in (ended_at slots g v)))
     → IfSome o (CanTake (ended_at slots g v))
 ended_takes m log slots t g v mach o n machine part = takes (run_of m) (event.Finish g nothing ∷ reverse log) (ended_at slots g v) mach o (ended_slots m log slots t g v n) machine (ended_can m log slots t g v n) part
+
+pub ended_decides : (m : Meaning) (log : List Event) (slots : List Slotted) (t : Tools) (g n : ℕ) (v : Table) (mach : Machine) → IsEnding m log slots t g → n ≡ t.finishes + 1 → mach ≡ machine_at t.machine t.steps n → CanDecide mach (ended_at slots g v)
+ended_decides m log slots t g n v mach ending count is =
+    let machine = ended_machine m log slots t g n mach ending.kept count is in
+    record {
+      one = ended_one m log slots t g v ending;
+      loads = ended_loads m log slots t g v ending;
+      limits = machine;
+      takes = λ d sensible. (
+        ended_takes m log slots t g v mach d.first ending machine sensible.first,
+        ended_takes m log slots t g v mach d.second ending machine sensible.second,
+        ended_two m log slots t g v mach d ending machine sensible,
+      );
+    }
 
 -- ---- the finish and its decision
 none_elsewhere : (c degree cut f : ℕ) → f ≢ c → cut_for (Some (event.Divide c degree cut)) f ≡ None
@@ -493,9 +501,6 @@ ending_of m log slots t g k lt c = record { kept = k; inside = lt; collecting = 
 
 pub ended_as : (slots xs : List Slotted) (g : ℕ) (v : Table) (s s' : Slotted) → g < length slots → s ≡ get_or slots g s → s' ≡ finished s v → xs ≡ set slots g s' → xs ≡ ended_at slots g v
 ended_as slots xs g v s s' lt is done now = now ∙ ap (set slots g) (done ∙ ap (λ (x : Slotted). finished x v) (looked slots g s lt is))
-
-pub decided_as : (mach : Machine) (xs ys : List Slotted) (d : Decision) → xs ≡ ys → d ≡ decision mach (running_in xs) (ready_in xs) → IsSensible mach (running_in xs) (ready_in xs) d → All (λ load. HasPart d load.fragment) (running_in xs) → IsDecided mach ys d
-decided_as mach xs ys d e value sensible goes_on = subst (λ zs. IsDecided mach zs d) e (record { value = value; sensible = sensible; goes_on = goes_on })
 
 pub written_back : (n : ℕ) (ys zs : List Slotted) → n ≡ length ys → take n (ys ++ zs) ≡ ys
 written_back n ys zs e = ap (λ q. take q (ys ++ zs)) e ∙ go ys

@@ -1,11 +1,15 @@
 -- What a decision does to the fragments that it names.
-use Rattle.std.specs.Prelude.{ℕ, ◌<◌, ◌≤◌, ◌-◌, ◌≡◌, ◌≢◌, true, false, Bool, ◌&&◌, ◌==◌, if◌then◌else◌, List, [], ◌∷◌, length, map, filter, slice_set, Option, Some, None}
-use Rattle.std.specs.List.{list_all}
+use Rattle.std.specs.Prelude.{ℕ, ◌<◌, ◌≤◌, ◌-◌, ◌≡◌, ◌≢◌, true, false, Bool, ◌&&◌, ◌==◌, if◌then◌else◌, List, [], ◌∷◌, length, map, filter, slice_set, Option, Some, None, IfSome}
+use Rattle.std.specs.List.{All, list_all}
+use Rattle.rows.specs.declared.plain.Machine.{Machine}
 use Rattle.rows.specs.declared.value.Value.{Value}
 use Rattle.hash_join.specs.Table.{Table}
 use Rattle.adjust_protocol.specs.Calls.{fresh}
 use Rattle.adjust_protocol.specs.Moves.{IsDue, Makes, Move, Running}
 use Rattle.adjust_protocol.specs.Moves as move
+use Rattle.io_cpu_scheduler.specs.Decisions.{decision}
+use Rattle.io_cpu_scheduler.specs.Limits.{IsLoad, IsMachine}
+use Rattle.io_cpu_scheduler.specs.Sensible.{HasPart, IsSensible}
 use Rattle.io_cpu_scheduler.specs.declared.load.Decision.{Decision}
 use Rattle.io_cpu_scheduler.specs.declared.load.Load.{Load}
 use Rattle.io_cpu_scheduler.specs.declared.load.Part.{Part}
@@ -111,3 +115,22 @@ pub record AllGiven (slots : List Slotted) (d : Decision) (divide : Option Event
   pub size : length slots' ≡ length slots
   pub each : (f : ℕ) → f < length slots → GivesSlot (given d f) (cut_for divide f) (at slots f) (at slots' f)
   pub cut : IsCut slots d divide
+
+-- ---- a decision over the fragments
+-- at most one runs, loads and machine are within their limits, and what a sensible decision names can be given
+pub record CanDecide (mach : Machine) (slots : List Slotted) : Type 0 where
+  pub one : length (running_in slots) ≤ 1
+  pub loads : All IsLoad (running_in slots) × All IsLoad (ready_in slots)
+  pub limits : IsMachine mach
+  pub takes : (d : Decision) → IsSensible mach (running_in slots) (ready_in slots) d → IfSome d.first (CanTake slots) × IfSome d.second (CanTake slots) × AreTwo slots d
+
+-- the decision of a machine
+pub record IsDecided (mach : Machine) (slots : List Slotted) (d : Decision) : Type 0 where
+  pub value : d ≡ decision mach (running_in slots) (ready_in slots)
+  pub sensible : IsSensible mach (running_in slots) (ready_in slots) d
+  pub goes_on : All (λ load. HasPart d load.fragment) (running_in slots)
+
+-- which is given to all
+pub record Decides (mach : Machine) (slots : List Slotted) (d : Decision) (divide : Option Event) (slots' : List Slotted) : Type 0 where
+  pub decided : IsDecided mach slots d
+  pub given : AllGiven slots d divide slots'

@@ -1,5 +1,5 @@
 -- Runs for tests: their fragments read no column, and end with a build without key columns.
-use Rattle.std.specs.Prelude.{ℕ, ◌≡◌, List, [], ◌∷◌, None}
+use Rattle.std.specs.Prelude.{ℕ, ◌≡◌, Bool, true, false, List, [], ◌∷◌, None}
 use Rattle.std.specs.List.{AllByRecursion}
 use Rattle.rows.specs.declared.plain.LayoutPart.{LayoutPart}
 use Rattle.rows.specs.declared.field.ColType.TheVariants.{Int4}
@@ -32,6 +32,11 @@ sample_pages statement positions time = sample statement (source.Heap 0 0) [] po
 abbrev pub sample_entries : ℕ → ℕ → ℕ → ℕ → Fragment
 sample_entries statement positions pages time =
     sample statement (source.Index 0 (record { file = 0; key_type = Int4; entries = positions; pages = 1; height = 1; heap_pages = 1 }) 0 (record { from = 0; upto = positions })) [] positions pages time
+
+-- the entries of an index, or the pages of a heap file
+abbrev pub sample_scan : ℕ → Bool → ℕ → ℕ → ℕ → Fragment
+sample_scan statement true positions pages time = sample_entries statement positions pages time
+sample_scan statement false positions pages time = sample_pages statement positions time
 
 -- one position, which reads what another fragment gives
 abbrev pub sample_reader : ℕ → ℕ → ℕ → Fragment

@@ -3,7 +3,7 @@ ghost use Rattle.std.specs.Prelude.{◌≡◌, ℕ, ◌<◌, ◌≤◌, ◌+◌,
 ghost use Rattle.page_partition.specs.Scan.{left_of, out_of};
 
 use crate::answers::{History, last_flags, values_where};
-use crate::decide::{decide, give};
+use crate::decide::decide_all;
 use crate::next::{Next, first_waiting, first_with_seat, values_of};
 use crate::places::places_of;
 use crate::room::make_room;
@@ -145,9 +145,8 @@ impl<K: RunName> Control<K> {
         let lasts = last_flags(alloc, fragments.items())?;
         let answers = Vec::with_capacity(alloc, fragments.len())?;
         let first = machine_after(&machine, &steps, 0);
-        let decision = decide(&slots, &mut running, &mut ready, &first);
+        let (decision, _none) = decide_all(&mut slots, &mut running, &mut ready, &first);
         history.push_reserved(Event::Begin { decision });
-        let _none = give(&mut slots, &decision);
         Ok(Control {
             slots,
             history,
@@ -346,11 +345,16 @@ impl<K: RunName> Control<K> {
         self.needed -= 2;
         self.finishes += 1;
         let machine = machine_after(&self.machine, &self.steps, self.finishes);
-        let decision = decide(&self.slots, &mut self.running, &mut self.ready, &machine);
+        let (decision, divide) = decide_all(
+            &mut self.slots,
+            &mut self.running,
+            &mut self.ready,
+            &machine,
+        );
         self.decision = decision;
         self.history
             .push_reserved(Event::Finish { fragment, decision });
-        if let Some(divide) = give(&mut self.slots, &decision) {
+        if let Some(divide) = divide {
             self.history.push_reserved(divide);
         }
         decision

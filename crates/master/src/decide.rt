@@ -1,10 +1,8 @@
 //! The decision of what runs, and what follows from it.
 ghost use Rattle.std.specs.Prelude.{◌≡◌, ◌≤◌, ◌<◌, ◌+◌, ◌^◌, length, IfSome, IsSome, vec_capacity};
 ghost use Rattle.std.specs.List.{All, list_all};
-ghost use Rattle.io_cpu_scheduler.specs.Decisions.{decision};
 ghost use Rattle.io_cpu_scheduler.specs.Limits.{IsLoad, IsMachine};
-ghost use Rattle.io_cpu_scheduler.specs.Sensible.{HasPart, IsSensible};
-ghost use Rattle.master.specs.Gives.{AllGiven, AreTwo, CanTake, GivesPart, is_ready, ready_in, running_in};
+ghost use Rattle.master.specs.Gives.{AllGiven, AreTwo, CanDecide, CanTake, Decides, GivesPart, IsDecided, is_ready, ready_in, running_in};
 ghost use Rattle.master.specs.Kind.{is_ended};
 ghost use Rattle.master.specs.Ledger.{at};
 
@@ -65,8 +63,8 @@ fn list_ready(slots: &[Slot], loads: &mut Vec<Load>)
     }
 }
 
-/// What is to run, by the loads of what runs and of what is ready. These are listed in the room of two lists.
-pub fn decide(
+// What is to run, by the loads of what runs and of what is ready. These are listed in the room of two lists.
+fn decide(
     slots: &[Slot],
     running: &mut Vec<Load>,
     ready: &mut Vec<Load>,
@@ -77,9 +75,7 @@ pub fn decide(
     requires machine { IsMachine machine.now }
     requires running { length slots.now ≤ vec_capacity running.old }
     requires ready { length slots.now ≤ vec_capacity ready.old }
-    ensures value { result ≡ decision machine.now (running_in slots.now) (ready_in slots.now) }
-    ensures sensible { IsSensible machine.now (running_in slots.now) (ready_in slots.now) result }
-    ensures goes_on { All (λ load. HasPart result load.fragment) (running_in slots.now) }
+    ensures decided { IsDecided machine.now slots.now result }
     ensures running { vec_capacity running.new ≡ vec_capacity running.old }
     ensures ready { vec_capacity ready.new ≡ vec_capacity ready.old }
 {
@@ -104,8 +100,8 @@ fn give_part(slots: &mut [Slot], part: Option<Part>) -> Option<Event>
     })
 }
 
-/// Gives each part's fragment its degree. It answers the divide that follows at once.
-pub fn give(slots: &mut [Slot], decision: &Decision) -> Option<Event>
+// Gives each part's fragment its degree. It answers the divide that follows at once.
+fn give(slots: &mut [Slot], decision: &Decision) -> Option<Event>
     requires first { IfSome decision.now.first (CanTake slots.old) }
     requires second { IfSome decision.now.second (CanTake slots.old) }
     requires two { AreTwo slots.old decision.now }
@@ -117,4 +113,25 @@ pub fn give(slots: &mut [Slot], decision: &Decision) -> Option<Event>
         Some(divide) => Some(divide),
         None => second,
     }
+}
+
+/// Decides what is to run, and gives each part's fragment its degree. It answers the decision, and the divide that follows
+/// at once.
+pub fn decide_all(
+    slots: &mut [Slot],
+    running: &mut Vec<Load>,
+    ready: &mut Vec<Load>,
+    machine: &Machine,
+) -> (Decision, Option<Event>)
+    requires can { CanDecide machine.now slots.old }
+    requires running { length slots.old ≤ vec_capacity running.old }
+    requires ready { length slots.old ≤ vec_capacity ready.old }
+    ensures decides { Decides machine.now slots.old result.0 result.1 slots.new }
+    ensures size { length slots.new ≡ length slots.old }
+    ensures running { vec_capacity running.new ≡ vec_capacity running.old }
+    ensures ready { vec_capacity ready.new ≡ vec_capacity ready.old }
+{
+    let decision = decide(slots, running, ready, machine);
+    let divide = give(slots, &decision);
+    (decision, divide)
 }

@@ -6,10 +6,10 @@ mod control;
 mod decide;
 mod next;
 mod places;
-#[cfg(test)]
-mod random_walk;
 mod release;
 mod room;
+#[cfg(test)]
+mod sample_runs;
 #[cfg(test)]
 mod samples;
 mod slot;

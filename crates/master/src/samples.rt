@@ -1,6 +1,6 @@
 //! Runs for tests.
 ghost use Rattle.std.specs.Prelude.{◌≡◌, [], ◌∷◌, IfOk};
-ghost use Rattle.master.specs.SampleRuns.{sample, sample_entries, sample_layout, sample_pages, sample_reader};
+ghost use Rattle.master.specs.SampleRuns.{sample, sample_entries, sample_layout, sample_pages, sample_reader, sample_scan};
 
 use lists::Sequence;
 use plan_tree::{End, Fragment, FragmentList, Pipe, Probe, ProbeList, Source};
@@ -115,17 +115,33 @@ fn reader(alloc: Global, statement: u32, input: u32, time: u64) -> Result<Fragme
     sample(alloc, statement, Source::One, probes, 1, 0, time)
 }
 
-/// Two scans of the entries of an index, each of its own statement, with so many pages and such times.
-pub fn pair(
-    alloc: Global,
-    positions: u32,
-    first: (u64, u64),
-    second: (u64, u64),
-) -> Result<FragmentList, AllocError>
-    ensures { IfOk result (λ fs. fs ≡ sample_entries 0 positions first.0 first.1 ∷ sample_entries 1 positions second.0 second.1 ∷ []) }
+/// A scan of pages or of entries: its positions, pages and time.
+#[derive(Clone, Copy)]
+pub struct Scan {
+    pub by_entries: bool,
+    pub positions: u32,
+    pub pages: u32,
+    pub time: u32,
+}
+
+// The scan, of a statement. A scan of pages has as many pages as positions.
+fn make_scan(alloc: Global, statement: u32, scan: &Scan) -> Result<Fragment, AllocError>
+    ensures { IfOk result (λ f. f ≡ sample_scan statement scan.now.by_entries scan.now.positions scan.now.pages scan.now.time) }
 {
-    let one = entries(alloc, 0, positions, first.0, first.1)?;
-    let two = entries(alloc, 1, positions, second.0, second.1)?;
+    let (number, time) = (u64::from(scan.pages), u64::from(scan.time));
+    if scan.by_entries {
+        entries(alloc, statement, scan.positions, number, time)
+    } else {
+        pages(alloc, statement, scan.positions, time)
+    }
+}
+
+/// Two scans, each of its own statement.
+pub fn pair(alloc: Global, first: &Scan, second: &Scan) -> Result<FragmentList, AllocError>
+    ensures { IfOk result (λ fs. fs ≡ sample_scan 0 first.now.by_entries first.now.positions first.now.pages first.now.time ∷ sample_scan 1 second.now.by_entries second.now.positions second.now.pages second.now.time ∷ []) }
+{
+    let one = make_scan(alloc, 0, first)?;
+    let two = make_scan(alloc, 1, second)?;
     Ok(Sequence::from_vec(vec![in alloc; one, two]?))
 }
 

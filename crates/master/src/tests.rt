@@ -3,12 +3,12 @@ ghost use Rattle.std.specs.Prelude.{◌≡◌, ◌<◌, ◌≤◌, [], ◌∷◌
 ghost use Rattle.std.specs.List.{AllByRecursion};
 ghost use Rattle.io_cpu_scheduler.specs.Limits.{IsMachine, IsStep};
 ghost use Rattle.plan_tree.specs.Pieces.{pieces_of};
-ghost use Rattle.plan_tree.specs.WellFormed.{AreWellFormed, IsTimed};
+ghost use Rattle.plan_tree.specs.WellFormed.{AreWellFormed};
 ghost use Rattle.plan_tree.specs.declared.fragment.End.TheVariants as end;
 ghost use Rattle.master.specs.SampleRuns.{IsSample};
 
-use crate::random_walk::{CALLS, EVENTS};
-use crate::samples::{pair, trio};
+use crate::sample_runs::{RUNS, WALK};
+use crate::samples::{Scan, pair, trio};
 use crate::{Control, History, Next, RunName};
 use adjust_protocol::{ArcList, Claimed, Settled};
 use hash_join::{Built, Parts, build};
@@ -178,19 +178,20 @@ fn answer<K: RunName>(
     done(alloc, "released")
 }
 
-// Makes the calls in order, one a line, each with its answer.
+// Makes the calls, those lines that have an answer.
 fn play<K: RunName>(
     rt: &impl Abort,
     alloc: Global,
     control: &mut Control<K>,
-    calls: &str,
+    lines: &str,
 ) -> Result<(), Fail>
     requires { IsSample K.meaning }
 {
-    for line in calls.lines() {
-        let (call, wanted) = line.split_once(" = ").ok_or("a line has no answer")?;
-        let text = answer(rt, alloc, control, call)?;
-        assert_eq!(rt; text.as_str(), wanted, "{call}");
+    for line in lines.lines() {
+        if let Some((call, wanted)) = line.split_once(" = ") {
+            let text = answer(rt, alloc, control, call)?;
+            assert_eq!(rt; text.as_str(), wanted, "{call}");
+        }
     }
     Ok(())
 }
@@ -240,7 +241,7 @@ fn move_text(alloc: Global, event: &Event) -> Result<String, Fail> {
     }
 }
 
-// The events are these, one a line.
+// The events are those of the lines that have no answer.
 fn assert_events(
     rt: &impl Abort,
     alloc: Global,
@@ -249,6 +250,9 @@ fn assert_events(
 ) -> Result<(), Fail> {
     let mut place = 0usize;
     for line in lines.lines() {
+        if line.contains(" = ") {
+            continue;
+        }
         assert!(rt; place < history.len());
         let text = event_text(alloc, history.get(place))?;
         assert_eq!(rt; text.as_str(), line);
@@ -264,8 +268,7 @@ fn run_named<K: RunName, R: Abort>(
     fragments: &FragmentList,
     machine: Machine,
     steps: &StepList,
-    calls: &String,
-    events: &String,
+    lines: &String,
 ) -> Result<usize, Fail>
     requires fragments { fragments.now ≡ K.meaning.fragments }
     requires formed { AreWellFormed (pieces_of fragments.now) }
@@ -276,30 +279,48 @@ fn run_named<K: RunName, R: Abort>(
     requires sample { IsSample K.meaning }
 {
     let mut control: Control<K> = Control::new(alloc, fragments, machine, steps)?;
-    play(rt, alloc, &mut control, calls.as_str())?;
+    play(rt, alloc, &mut control, lines.as_str())?;
     let (history, answers) = control.into_end();
-    assert_events(rt, alloc, &history, events.as_str())?;
+    assert_events(rt, alloc, &history, lines.as_str())?;
     Ok(answers.len())
 }
 
-// Makes a control for these fragments, makes the calls, and compares the events. It gives the number of answers.
-fn run<R: Abort>(
-    rt: &R,
-    alloc: Global,
-    fragments: &FragmentList,
+// The machine of a run, its backends after the first finish, and how many answers there are at the end.
+#[derive(Clone, Copy)]
+struct Setting {
     machine: Machine,
-    steps: &StepList,
-    calls: &str,
-    events: &str,
-) -> Result<usize, Fail>
-    requires formed { AreWellFormed (pieces_of fragments.now) }
-    requires limits { IsMachine machine }
-    requires within { AllByRecursion IsStep steps.now }
-    requires ends { AllByRecursion (λ f. f.end ≡ end.Build []) fragments.now }
+    later: u32,
+    answers: u32,
+}
+
+// What stands behind ` on ` in the first line of a run.
+fn setting_of(rt: &impl Abort, words: &str) -> Setting
+    ensures machine { IsMachine result.machine }
+    ensures low { 1 ≤ result.later }
+    ensures high { result.later ≤ 64 }
 {
-    let calls = String::from_str(alloc, calls)?;
-    let events = String::from_str(alloc, events)?;
-    run_named::<Brand, R>(rt, alloc, fragments, machine, steps, &calls, &events)
+    let mut words = words.split_whitespace();
+    let backends = number(words.next());
+    let drives = number(words.next());
+    let batch = number(words.next());
+    let _then = words.next();
+    let later = number(words.next());
+    let _gives = words.next();
+    let answers = number(words.next());
+    assert!(rt; 1 <= backends && backends <= 64);
+    assert!(rt; 1 <= drives && drives <= 16);
+    assert!(rt; 1 <= batch && batch <= 64);
+    assert!(rt; 1 <= later && later <= 64);
+    let machine = Machine {
+        backends,
+        drives,
+        batch,
+    };
+    Setting {
+        machine,
+        later,
+        answers,
+    }
 }
 
 // A machine that changes to so many backends after the first finish.
@@ -312,237 +333,92 @@ fn steps(alloc: Global, backends: u32) -> Result<StepList, Fail>
     Ok(Sequence::from_vec(vec![in alloc; step]?))
 }
 
-// Makes the calls on a control for two scans of the entries of an index, each of its own statement. It gives the number of
-// answers.
+// Makes a control for these fragments, makes the calls, and compares the events and the number of answers.
+fn run<R: Abort>(
+    rt: &R,
+    alloc: Global,
+    fragments: &FragmentList,
+    setting: &str,
+    lines: &str,
+) -> Result<(), Fail>
+    requires formed { AreWellFormed (pieces_of fragments.now) }
+    requires ends { AllByRecursion (λ f. f.end ≡ end.Build []) fragments.now }
+{
+    let setting = setting_of(rt, setting);
+    let steps = steps(alloc, setting.later)?;
+    let lines = String::from_str(alloc, lines)?;
+    let answers = run_named::<Brand, R>(rt, alloc, fragments, setting.machine, &steps, &lines)?;
+    assert_eq!(rt; answers, setting.answers as usize);
+    Ok(())
+}
+
+// A scan such as `pages 20 20 90000`: its positions, pages and time.
+fn scan_of(rt: &impl Abort, words: &str) -> Scan
+    ensures { 1 ≤ result.time }
+{
+    let mut words = words.split_whitespace();
+    let by_entries = words.next() == Some("entries");
+    let positions = number(words.next());
+    let pages = number(words.next());
+    let time = number(words.next());
+    assert!(rt; 1 <= time);
+    Scan {
+        by_entries,
+        positions,
+        pages,
+        time,
+    }
+}
+
+// Two scans, each of its own statement.
 fn play_pair(
     rt: &impl Abort,
     alloc: Global,
-    positions: u32,
-    first: (u64, u64),
-    second: (u64, u64),
-    machine: Machine,
-    later: u32,
-    calls: &str,
-    events: &str,
-) -> Result<usize, Fail>
-    requires first { IsTimed first.0 first.1 }
-    requires second { IsTimed second.0 second.1 }
-    requires limits { IsMachine machine }
-    requires low { 1 ≤ later }
-    requires high { later ≤ 64 }
-{
-    let fragments = pair(alloc, positions, first, second)?;
-    let steps = steps(alloc, later)?;
-    run(rt, alloc, &fragments, machine, &steps, calls, events)
-}
-
-const EIGHT: Machine = Machine {
-    backends: 8,
-    drives: 4,
-    batch: 8,
-};
-
-const ONE: Machine = Machine {
-    backends: 1,
-    drives: 1,
-    batch: 8,
-};
-
-const THREE: Machine = Machine {
-    backends: 3,
-    drives: 3,
-    batch: 8,
-};
-
-const FOUR: Machine = Machine {
-    backends: 4,
-    drives: 4,
-    batch: 8,
-};
-
-#[test]
-fn the_first_decision_and_those_after_finishes_follow_the_loads(
-    rt: HostRuntime,
+    scans: &str,
+    setting: &str,
+    lines: &str,
 ) -> Result<(), Fail> {
-    let alloc = rt.alloc();
-    let (slow, fast) = ((100, 900), (10, 2000));
-    let both =
-        "next 0 = collect 0\nfinish 0 = 1:8\nnext 3 = collect 1\nfinish 1 = nothing\nnext 0 = stop";
-    let events =
-        "begin then 0:2 1:6\ncollect 0 0\nfinish 0 then 1:8\ncollect 3 1\nfinish 1 then nothing";
-    assert_eq!(rt;
-        play_pair(&rt, alloc, 0, slow, fast, EIGHT, 8, both, events)?,
-        2
-    );
-    let one = "next 0 = collect 0\nfinish 0 = 1:1";
-    let events = "begin then 0:1\ncollect 0 0\nfinish 0 then 1:1";
-    assert_eq!(rt;
-        play_pair(&rt, alloc, 0, slow, fast, ONE, 1, one, events)?,
-        0
-    );
-    let begin = "begin then 0:1 1:2";
-    play_pair(&rt, alloc, 2, (10, 80), (0, 1), THREE, 3, "", begin)?;
-    Ok(())
+    let (first, second) = scans.split_once(" + ").ok_or("a run has one scan")?;
+    let first = scan_of(rt, first);
+    let second = scan_of(rt, second);
+    let fragments = pair(alloc, &first, &second)?;
+    run(rt, alloc, &fragments, setting, lines)
 }
 
-const FIRST_CALLS: &str = "next 0 = job 0 1
-claim 0 1 = [0]
-settle 0 1 1 = finished
-next 1 = collect 0
-leave 0 1 = left
-finish 0 = 1:";
-
-const LATER_CALLS: &str = "next 0 = collect 1
-finish 1 = nothing
-next 0 = stop";
-
-const FIRST_EVENTS: &str = "begin then 0:2 1:2
-seat 0 0 1
-claim 0 1 [0]
-settle 0 1 1
-collect 1 0
-leave 0 1
-finish 0 then 1:";
-
-const LATER_EVENTS: &str = "collect 0 1
-finish 1 then nothing";
-
-// The calls of the one role of the second fragment that has something left, and their events.
-fn role_calls(alloc: Global, role: u32) -> Result<String, Fail> {
-    let seat = format!(in alloc; "next 0 = job 1 {role}\nclaim 1 {role} = [0]\n")?;
-    Ok(format!(in alloc; "{seat}settle 1 {role} 1 = finished\nleave 1 {role} = left\n")?)
+// Three fragments, of which one reads another.
+fn play_trio(rt: &impl Abort, alloc: Global, setting: &str, lines: &str) -> Result<(), Fail> {
+    let fragments = trio(alloc)?;
+    run(rt, alloc, &fragments, setting, lines)
 }
 
-fn role_events(alloc: Global, role: u32) -> Result<String, Fail> {
-    let seat = format!(in alloc; "seat 0 1 {role}\nclaim 1 {role} [0]\n")?;
-    Ok(format!(in alloc; "{seat}settle 1 {role} 1\nleave 1 {role}\n")?)
+// No fragments.
+fn play_none(rt: &impl Abort, alloc: Global, setting: &str, lines: &str) -> Result<(), Fail> {
+    let fragments = Sequence::new(alloc);
+    run(rt, alloc, &fragments, setting, lines)
 }
 
-// Two statements over a position each. After the first finish the machine has so many backends, and the second fragment
-// the degree, with the divide, if any; its last role has the position.
-fn play_two(
-    rt: &impl Abort,
-    alloc: Global,
-    later: u32,
-    degree: u32,
-    divide: &str,
-) -> Result<(), Fail>
-    requires low { 1 ≤ later }
-    requires high { later ≤ 64 }
-{
-    let (emp, num) = ((1, 11), (1, 24));
-    let role = degree.saturating_sub(1);
-    let does = role_calls(alloc, role)?;
-    let calls = format!(in alloc; "{}{degree}\n{does}{}", FIRST_CALLS, LATER_CALLS)?;
-    let does = role_events(alloc, role)?;
-    let events = format!(in alloc; "{}{degree}\n{divide}{does}{}", FIRST_EVENTS, LATER_EVENTS)?;
-    let answers = play_pair(
-        rt,
-        alloc,
-        1,
-        emp,
-        num,
-        FOUR,
-        later,
-        calls.as_str(),
-        events.as_str(),
-    )?;
-    assert_eq!(rt; answers, 2);
-    Ok(())
+// A run: a line that says what it is, then its calls with their answers, and its events.
+fn play_run(rt: &impl Abort, alloc: Global, text: &str) -> Result<(), Fail> {
+    let (first, lines) = text.split_once("\n").ok_or("a run has one line")?;
+    let (fragments, setting) = first.split_once(" on ").ok_or("a run has no machine")?;
+    if fragments == "none" {
+        return play_none(rt, alloc, setting, lines);
+    }
+    if fragments == "trio" {
+        return play_trio(rt, alloc, setting, lines);
+    }
+    play_pair(rt, alloc, fragments, setting, lines)
 }
 
 #[test]
-fn a_finish_gives_the_other_fragment_the_degree_of_the_machine_then(
-    rt: HostRuntime,
-) -> Result<(), Fail> {
-    play_two(&rt, rt.alloc(), 4, 4, "divide 1 4 1\n")?;
-    play_two(&rt, rt.alloc(), 2, 2, "")?;
-    play_two(&rt, rt.alloc(), 8, 6, "divide 1 6 1\n")?;
+fn runs_answer_and_record_what_is_stated(rt: HostRuntime) -> Result<(), Fail> {
+    for text in RUNS.split("\n\n") {
+        play_run(&rt, rt.alloc(), text)?;
+    }
     Ok(())
 }
 
 #[test]
 fn a_random_walk_meets_the_plain_definitions(rt: HostRuntime) -> Result<(), Fail> {
-    let alloc = rt.alloc();
-    let machine = Machine {
-        backends: 6,
-        drives: 4,
-        batch: 4,
-    };
-    let fragments = trio(alloc)?;
-    let steps = steps(alloc, 3)?;
-    assert_eq!(rt;
-        run(&rt, alloc, &fragments, machine, &steps, CALLS, EVENTS)?,
-        2
-    );
-    Ok(())
-}
-
-#[test]
-fn a_run_without_fragments_begins_with_nothing(rt: HostRuntime) -> Result<(), Fail> {
-    let alloc = rt.alloc();
-    let none = Sequence::new(alloc);
-    let steps = Sequence::new(alloc);
-    let answers = run(
-        &rt,
-        alloc,
-        &none,
-        FOUR,
-        &steps,
-        "next 0 = stop",
-        "begin then nothing",
-    )?;
-    assert_eq!(rt; answers, 0);
-    Ok(())
-}
-
-const RELEASED: &str = "next 0 = job 0 0
-next 1 = job 0 1
-claim 0 1 = [1]
-release = released
-next 0 = job 0 0
-claim 0 0 = [0]
-settle 0 0 1 = more
-leave 0 0 = left
-next 0 = job 0 1
-claim 0 1 = [1]
-settle 0 1 1 = finished
-next 0 = collect 0
-release = released
-next 0 = collect 0";
-
-const RELEASED_EVENTS: &str = "begin then 0:2 1:2
-seat 0 0 0
-seat 1 0 1
-claim 0 1 [1]
-leave 0 0
-settle 0 1 0
-leave 0 1
-seat 0 0 0
-claim 0 0 [0]
-settle 0 0 1
-leave 0 0
-seat 0 0 1
-claim 0 1 [1]
-settle 0 1 1
-collect 0 0
-leave 0 1
-uncollect 0
-collect 0 0";
-
-#[test]
-fn a_release_puts_everything_back(rt: HostRuntime) -> Result<(), Fail> {
-    let alloc = rt.alloc();
-    play_pair(
-        &rt,
-        alloc,
-        2,
-        (1, 11),
-        (1, 24),
-        FOUR,
-        4,
-        RELEASED,
-        RELEASED_EVENTS,
-    )?;
-    Ok(())
+    play_run(&rt, rt.alloc(), WALK)
 }
