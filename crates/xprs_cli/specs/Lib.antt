@@ -1,4 +1,5 @@
 pub mod Answers
 pub mod Bytes
 pub mod Pages
+pub mod Runs
 pub mod Writers

@@ -218,6 +218,8 @@ fn the_program_ends_with_the_number_of_its_status(rt: HostRuntime) -> Result<(),
         ("alone cat_test fault_test", 2),
         ("check cat_test missing_test", 2),
         ("check . q_test", 3),
+        ("run cat_test q_test --drives 2", 9),
+        ("run cat_test", 1),
     ] {
         let out = Some(Vec::new(alloc));
         let err = Some(Vec::new(alloc));

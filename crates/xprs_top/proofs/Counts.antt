@@ -9,6 +9,7 @@ use Rattle.heap_page.proofs.Found.{get_below, there}
 use Rattle.xp_outside.specs.declared.drive.Drive.{Ghosts}
 use Rattle.xp_outside.specs.Drives.{IsFresh}
 use Rattle.plan_tree.specs.declared.tree.Plan.{Plan}
+use Rattle.rows.specs.declared.plain.Machine.{Machine}
 use Rattle.std.specs.Global.{Vec}
 use Rattle.table_store.specs.Databases.{AllFresh}
 use Rattle.table_store.proofs.Filed.{all_at}
@@ -30,19 +31,19 @@ named_fetch (fetch.BadPage bad) = refl
 named_fetch fetch.NoMemory = refl
 
 -- a text of plans names the drive whose read has failed
-pub named_plans : (plans : Result (List Plan) FetchErr) (text : Result (Vec ℕ) Status) → Explains plans text → failed_drive text ≡ fetch_fault plans
-named_plans (Ok ps) (Ok text) shows = refl
-named_plans (Ok ps) (Err NoMemory) shows = refl
-named_plans (Ok ps) (Err Done) shows = absurd shows
-named_plans (Ok ps) (Err Usage) shows = absurd shows
-named_plans (Ok ps) (Err (Refused r)) shows = absurd shows
-named_plans (Ok ps) (Err ShelfFault) shows = absurd shows
-named_plans (Ok ps) (Err (DriveFault d)) shows = absurd shows
-named_plans (Ok ps) (Err (Bad bad)) shows = absurd shows
-named_plans (Ok ps) (Err SinkFault) shows = absurd shows
-named_plans (Ok ps) (Err (DriveFull d needs capacity)) shows = absurd shows
-named_plans (Ok ps) (Err NotBuilt) shows = absurd shows
-named_plans (Err e) text shows = ap failed_drive shows ∙ named_fetch e ∙ same e where
+pub named_plans : (machine : Machine) (plans : Result (List Plan) FetchErr) (text : Result (Vec ℕ) Status) → Explains machine plans text → failed_drive text ≡ fetch_fault plans
+named_plans machine (Ok ps) (Ok text) shows = refl
+named_plans machine (Ok ps) (Err NoMemory) shows = refl
+named_plans machine (Ok ps) (Err Done) shows = absurd shows
+named_plans machine (Ok ps) (Err Usage) shows = absurd shows
+named_plans machine (Ok ps) (Err (Refused r)) shows = absurd shows
+named_plans machine (Ok ps) (Err ShelfFault) shows = absurd shows
+named_plans machine (Ok ps) (Err (DriveFault d)) shows = absurd shows
+named_plans machine (Ok ps) (Err (Bad bad)) shows = absurd shows
+named_plans machine (Ok ps) (Err SinkFault) shows = absurd shows
+named_plans machine (Ok ps) (Err (DriveFull d needs capacity)) shows = absurd shows
+named_plans machine (Ok ps) (Err (NotBuilt what)) shows = absurd shows
+named_plans machine (Err e) text shows = ap failed_drive shows ∙ named_fetch e ∙ same e where
   same : (e : FetchErr) → fetch_fault {T = ℕ} (Err e) ≡ fetch_fault {T = List Plan} (Err e)
   same (fetch.DriveFault d) = refl
   same (fetch.BadPage bad) = refl

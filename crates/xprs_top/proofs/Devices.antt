@@ -16,6 +16,7 @@ use Rattle.heap_page.specs.Pages.{fault_of, items_of, page_of}
 use Rattle.heap_page.specs.Stores.{AreRead, IsFault}
 use Rattle.heap_page.proofs.Found.{get_below, there}
 use Rattle.rel_meaning.specs.declared.query.Table.{Table}
+use Rattle.rows.specs.declared.plain.Machine.{Machine}
 use Rattle.table_store.specs.declared.database.Laid.{Laid}
 use Rattle.table_store.specs.declared.files.StoredTable.{StoredTable}
 use Rattle.table_store.specs.Databases.{AllFresh, AreKept, IsBadPage, IsLaidOut, LayoutCause, MayStore, ReadCause, TellTables}
@@ -85,8 +86,8 @@ module _ {D : Type 0} (g : Ghosts D) where
 
   -- ---- a database that is laid out
 
-  module _ (checked : Checked) (db : List Table) (before now : ℕ) where
-    pub lay_made : (goal : Goal) (olds mids : List D) (e : StoreErr) → length olds ≡ 4 → AllFresh g olds → AreKept g olds mids → LayoutCause g checked.catalog db olds mids e → Makes g (over goal checked db) before now mids (Err (of_store e))
+  module _ (checked : Checked) (db : List Table) (machine : Machine) (before now : ℕ) where
+    pub lay_made : (goal : Goal) (olds mids : List D) (e : StoreErr) → length olds ≡ machine.drives → AllFresh g olds → AreKept g olds mids → LayoutCause g checked.catalog db olds mids e → Makes g (over goal machine checked db) before now mids (Err (of_store e))
     lay_made goal olds mids (store.DriveFault d) count fresh kept (tables, stored, lay) = (
       record { count = kept.len ∙ count; layout = record { tables = tables; stored = stored; map_of = lay.0; is = rw (← count) lay.1 }; room = lay.2 },
       record { drive = lay.3.new; here = lay.3.is; some = omega (arith, lay.3.rose) },
@@ -95,8 +96,8 @@ module _ {D : Type 0} (g : Ghosts D) where
         record { count = kept.len ∙ count; layout = record { tables = tables; stored = stored; map_of = lay.0; is = rw (← count) lay.1 }; full = lay.2; unwritten = subst (AllFresh g) (sym lay.3) fresh }
     lay_made goal olds mids store.NoMemory count fresh kept cause = tt
 
-    module _ (olds mids news : List D) (laid : Laid) (count : length olds ≡ 4) (fresh : AllFresh g olds) (kept : AreKept g olds mids) (out : IsLaidOut g checked.catalog db olds mids laid) (read : AreRead g mids news) where
-      abbrev pub is_fit : Fit g checked.catalog db news
+    module _ (olds mids news : List D) (laid : Laid) (count : length olds ≡ machine.drives) (fresh : AllFresh g olds) (kept : AreKept g olds mids) (out : IsLaidOut g checked.catalog db olds mids laid) (read : AreRead g mids news) where
+      abbrev pub is_fit : Fit g checked.catalog db machine.drives news
       is_fit = record {
         count = read.len ∙ (kept.len ∙ count);
         layout = record { tables = out.tables; stored = out.stored; map_of = laid.map; is = rw (← count) out.are.of };
@@ -109,7 +110,7 @@ module _ {D : Type 0} (g : Ghosts D) where
       -- a page that was read is bad, and its drive doesn't tell it
       bad_read : (bad : BadPage) (is : IsBadPage g laid checked.catalog mids bad) → ((drive : D) → slice_get mids (drive_of laid.map bad.page) ≡ Some drive → g.pages drive ≡ None) →
           ((drive : D) → slice_get mids (drive_of laid.map bad.page) ≡ Some drive → (1 ≤ bad.rule) × (bad.rule ≤ 9)) → is.place < length out.tables → bad.file ≡ file_number out.tables is.place →
-          ReadsBad g (over Answers checked db) bad news
+          ReadsBad g (over Answers machine checked db) bad news
       bad_read bad is untold ruled within file =
           let low : drive_of laid.map bad.page < length mids = omega (arith, mod_below bad.page laid.map.drives out.are.of.is_map.some, out.are.of.drives_are, kept.len) in
           let mid = there mids (drive_of laid.map bad.page) low in
@@ -117,14 +118,14 @@ module _ {D : Type 0} (g : Ghosts D) where
           let told = (read.each (drive_of laid.map bad.page) mid.0 new.0 mid.1 new.1).told in
           (is_fit, record { table = is.place; within = within; file = file; page = is.page; rule = ruled mid.0 mid.1; drive = new.0; here = new.1; untold = told ∙ untold mid.0 mid.1 })
 
-      pub read_made : (may : MayStore checked.catalog db) (accepted : PagesAccepted) (again : PagesAgain) (e : FetchErr) → ReadCause g laid checked.catalog mids news e → Makes g (over Answers checked db) before now news (Err (of_fetch e))
+      pub read_made : (may : MayStore checked.catalog db) (accepted : PagesAccepted) (again : PagesAgain) (e : FetchErr) → ReadCause g laid checked.catalog mids news e → Makes g (over Answers machine checked db) before now news (Err (of_fetch e))
       read_made may accepted again (fetch.DriveFault d) cause = (is_fit, record { drive = cause.new; here = cause.is; some = omega (arith, cause.rose) })
       read_made may accepted again (fetch.BadPage bad) cause =
           bad_read bad cause (untold_page accepted again g checked.catalog db olds mids laid may fresh out bad cause) (rule_is accepted again g checked.catalog db olds mids laid may fresh out bad cause)
           (within accepted again g checked.catalog db olds mids laid may fresh out bad cause) (file_is accepted again g checked.catalog db olds mids laid may fresh out bad cause)
       read_made may accepted again fetch.NoMemory cause = tt
 
-      pub text_made : (found : List Table) (text : Vec ℕ) → (TellTables g laid db mids → found ≡ db) → text.items ≡ answers_bytes found checked.questions → Makes g (over Answers checked db) before now news (Ok text)
+      pub text_made : (found : List Table) (text : Vec ℕ) → (TellTables g laid db mids → found ≡ db) → text.items ≡ answers_bytes found checked.questions → Makes g (over Answers machine checked db) before now news (Ok text)
       text_made found text again is =
           ((is_fit, image_read laid.map out.tables mids news read (out.image fresh)), λ all. is ∙ ap (λ (tables : List Table). answers_bytes tables checked.questions) (again (tell_mids all)))
 

@@ -10,6 +10,7 @@ use Rattle.heap_page.specs.Stores.{AreRead}
 use Rattle.heap_page.proofs.Found.{get_below, there}
 use Rattle.key_index.specs.Files.{index_of}
 use Rattle.rows.specs.declared.plain.KeyIndex.{KeyIndex}
+use Rattle.rows.specs.declared.plain.Machine.{Machine}
 use Rattle.rows.specs.declared.plain.Relation.{Relation}
 use Rattle.rel_meaning.specs.declared.query.Table.{Table}
 use Rattle.table_store.specs.declared.database.Laid.{Laid}
@@ -56,32 +57,32 @@ numbered file pages (Some stored) index e = let same : index ≡ index_of file s
 
 module _ {D : Type 0} (g : Ghosts D) where
   -- tables that are laid out are counted right
-  pub counted : (relations : List Relation) (db : List Table) (olds mids : List D) (laid : Laid) (rows : List ℕ) (out : IsLaidOut g relations db olds mids laid) → MayStore relations db → length olds ≡ 4 →
-      rows ≡ map (λ (t : Table). length t.rows) db → AreOf relations rows laid 4 out.tables
-  counted relations db olds mids laid rows out may count is = are_of relations db out.tables rows 4 laid may out.stored out.storable (rw (← count) out.are) is
+  pub counted : (relations : List Relation) (db : List Table) (olds mids : List D) (laid : Laid) (rows : List ℕ) (out : IsLaidOut g relations db olds mids laid) → MayStore relations db → (n : ℕ) → length olds ≡ n →
+      rows ≡ map (λ (t : Table). length t.rows) db → AreOf relations rows laid n out.tables
+  counted relations db olds mids laid rows out may n count is = are_of relations db out.tables rows n laid may out.stored out.storable (rw (← count) out.are) is
 
-  pub stands : (relations : List Relation) (db : List Table) (olds mids : List D) (laid : Laid) (rows : List ℕ) (drives : ℕ) (out : IsLaidOut g relations db olds mids laid) → MayStore relations db → length olds ≡ 4 →
-      rows ≡ map (λ (t : Table). length t.rows) db → drives ≡ 4 → Stands relations rows laid drives
-  stands relations db olds mids laid rows drives out may count is n = rw n (record { tables = out.tables; are = counted relations db olds mids laid rows out may count is })
+  pub stands : (relations : List Relation) (db : List Table) (olds mids : List D) (laid : Laid) (rows : List ℕ) (drives : ℕ) (out : IsLaidOut g relations db olds mids laid) → MayStore relations db → length olds ≡ drives →
+      rows ≡ map (λ (t : Table). length t.rows) db → Stands relations rows laid drives
+  stands relations db olds mids laid rows drives out may count is = record { tables = out.tables; are = counted relations db olds mids laid rows out may drives count is }
 
   -- ---- the text of the plans
 
-  module _ (checked : Checked) (db : List Table) (before now : ℕ) (m : Method) (olds mids news : List D) (laid : Laid) (count : length olds ≡ 4) (fresh : AllFresh g olds) (kept : AreKept g olds mids)
-      (out : IsLaidOut g checked.catalog db olds mids laid) (read : AreRead g mids news) (rows : List ℕ) (are : AreOf checked.catalog rows laid 4 out.tables) where
+  module _ (checked : Checked) (db : List Table) (machine : Machine) (before now : ℕ) (m : Method) (olds mids news : List D) (laid : Laid) (count : length olds ≡ machine.drives) (fresh : AllFresh g olds) (kept : AreKept g olds mids)
+      (out : IsLaidOut g checked.catalog db olds mids laid) (read : AreRead g mids news) (rows : List ℕ) (are : AreOf checked.catalog rows laid machine.drives out.tables) where
     all_mids : AllTell g news → AllTell g mids
     all_mids all = tell_before g mids news (kept_reading g mids news read) all
 
     -- which plans are made over told drives
     abbrev pub Planned : Result (List Plan) FetchErr → Type 0
-    Planned plans = (tables : List StoredTable) → AreOf checked.catalog rows laid 4 tables → HoldImage g laid.map tables mids → AllTell g mids → IfOk plans (λ ps. AreBestPlans checked.catalog tables m checked.questions (map planned_of ps))
+    Planned plans = (tables : List StoredTable) → AreOf checked.catalog rows laid machine.drives tables → HoldImage g laid.map tables mids → AllTell g mids → IfOk plans (λ ps. AreBestPlans checked.catalog tables m checked.questions (map planned_of ps))
 
     abbrev pub NeverBad : Result (List Plan) FetchErr → Type 0
-    NeverBad plans = (tables : List StoredTable) (bad : BadPage) → AreOf checked.catalog rows laid 4 tables → HoldImage g laid.map tables mids → AllTell g mids → plans ≡ Err (fetch.BadPage bad) → ⊥
+    NeverBad plans = (tables : List StoredTable) (bad : BadPage) → AreOf checked.catalog rows laid machine.drives tables → HoldImage g laid.map tables mids → AllTell g mids → plans ≡ Err (fetch.BadPage bad) → ⊥
 
-    abbrev fit : Fit g checked.catalog db news
-    fit = is_fit g checked db before now olds mids news laid count fresh kept out read
+    abbrev fit : Fit g checked.catalog db machine.drives news
+    fit = is_fit g checked db machine before now olds mids news laid count fresh kept out read
 
-    made_err : (e : FetchErr) → PlanCause g laid mids news e → NeverBad (Err e) → Makes g (over (Plans m) checked db) before now news (Err (of_fetch e))
+    made_err : (e : FetchErr) → PlanCause g laid mids news e → NeverBad (Err e) → Makes g (over (Plans m) machine checked db) before now news (Err (of_fetch e))
     made_err (fetch.DriveFault d) cause never = (fit, record { drive = cause.new; here = cause.is; some = omega (arith, cause.rose) })
     made_err (fetch.BadPage bad) cause never =
         let at = there out.tables cause.table (omega (arith, get_below laid.indexes.items cause.table (Some cause.index) cause.stands, out.are.index_count)) in
@@ -101,7 +102,7 @@ module _ {D : Type 0} (g : Ghosts D) where
         )
     made_err fetch.NoMemory cause never = tt
 
-    pub made_plans : (plans : Result (List Plan) FetchErr) (text : Result (Vec ℕ) Status) → Planned plans → NeverBad plans → IfErr plans (PlanCause g laid mids news) → Explains plans text → Makes g (over (Plans m) checked db) before now news text
+    pub made_plans : (plans : Result (List Plan) FetchErr) (text : Result (Vec ℕ) Status) → Planned plans → NeverBad plans → IfErr plans (PlanCause g laid mids news) → Explains machine plans text → Makes g (over (Plans m) machine checked db) before now news text
     made_plans (Ok ps) (Ok text) told never cause shows = (
       (fit, image_read g laid.map out.tables mids news read (out.image fresh)),
       λ all. record { tables = out.tables; stored = out.stored; plans = map planned_of ps; best = told out.tables are (out.image fresh) (all_mids all); is = shows },
@@ -115,5 +116,5 @@ module _ {D : Type 0} (g : Ghosts D) where
     made_plans (Ok ps) (Err (Bad bad)) told never cause shows = absurd shows
     made_plans (Ok ps) (Err SinkFault) told never cause shows = absurd shows
     made_plans (Ok ps) (Err (DriveFull d needs capacity)) told never cause shows = absurd shows
-    made_plans (Ok ps) (Err NotBuilt) told never cause shows = absurd shows
-    made_plans (Err e) text told never cause shows = subst (Makes g (over (Plans m) checked db) before now news) (sym shows) (made_err e cause never)
+    made_plans (Ok ps) (Err (NotBuilt what)) told never cause shows = absurd shows
+    made_plans (Err e) text told never cause shows = subst (Makes g (over (Plans m) machine checked db) before now news) (sym shows) (made_err e cause never)

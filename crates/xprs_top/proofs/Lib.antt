@@ -13,3 +13,4 @@ pub mod OneJob
 pub mod Refusals
 pub mod Counts
 pub mod OneText
+pub mod Ranges

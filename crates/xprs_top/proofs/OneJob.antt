@@ -13,7 +13,7 @@ use Rattle.catalog_load.proofs.OneCatalog.{one_catalog}
 use Rattle.name_check.specs.Machine.{machine_steps}
 use Rattle.name_check.specs.Sentences.{heading_of, queries_of}
 use Rattle.xprs_top.specs.declared.status.Status.{Status}
-use Rattle.xprs_top.specs.Words.{Request}
+use Rattle.xprs_top.specs.Requests.{Request}
 use Rattle.xprs_top.specs.Readings.{Files, InFile, IsCatalog, IsChecked, IsProgram, IsScript, IsJob, Just, Then, check_of, checked_in, fetch_of, job_by, text_fault}
 
 abbrev pub IsOne : {A E : Type 0} → (Result A E → Type 0) → Type 0
@@ -84,4 +84,4 @@ one_checked : (files : Files) (request : Request) → IsOne (IsChecked files req
 one_checked files request = one_then _ _ (one_catalog_in files request.catalog) (λ relations. one_script files relations request.script)
 
 pub one_job : (files : Files) (request : Request) → IsOne (IsJob files request)
-one_job files request = one_then _ _ (one_checked files request) (λ checked. one_just (job_by files request.verb checked))
+one_job files request = one_then _ _ (one_checked files request) (λ checked. one_just (job_by files request.aim checked))

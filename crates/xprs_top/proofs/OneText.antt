@@ -3,6 +3,7 @@ use Rattle.std.proofs.Common.{◌≡◌, ◌∙◌, sym, refl, ap, subst, arith,
 use Rattle.std.specs.Prelude.{All}
 use Rattle.std.specs.List.{list_any}
 use Rattle.std.proofs.lemmas.List.Elements.{All-nil, All-cons, All-weaker}
+use Rattle.rows.specs.declared.plain.Machine.{Machine}
 use Rattle.rows.specs.declared.plain.Relation.{Relation}
 use Rattle.rows.specs.declared.value.Value.{Value}
 use Rattle.rel_meaning.specs.declared.query.Table.{Table}
@@ -22,13 +23,14 @@ use Rattle.query_planner.specs.Plans.{MayPlan}
 use Rattle.query_planner.proofs.OneList.{one_list}
 use Rattle.xprs_top.specs.declared.status.Status.{Status}
 use Rattle.xprs_top.specs.declared.status.Status.TheVariants.{NotBuilt}
+use Rattle.xprs_top.specs.declared.status.Unbuilt.TheVariants.{Folds}
 use Rattle.xprs_top.specs.declared.goal.Goal.{Goal}
 use Rattle.xprs_top.specs.declared.goal.Goal.TheVariants.{Answers, Plans}
-use Rattle.xprs_top.specs.declared.words.Verb.{Verb}
-use Rattle.xprs_top.specs.declared.words.Verb.TheVariants.{Alone, Check, Explain}
+use Rattle.xprs_top.specs.declared.goal.Aim.{Aim}
+use Rattle.xprs_top.specs.declared.goal.Aim.TheVariants.{Print, Make}
 use Rattle.xprs_top.specs.Readings.{Checked, Files, IsJob, IsScript, Job, bind, check_of, checked_in, is_unbuilt, job_by, over, over_tables, table_of, tables_of, write}
-use Rattle.xprs_top.specs.Texts.{IsText, start_machine}
-use Rattle.xprs_top.specs.Words.{Request}
+use Rattle.xprs_top.specs.Requests.{Request}
+use Rattle.xprs_top.specs.Texts.{IsText}
 use Rattle.xprs_top.proofs.Asked.{planned}
 use Rattle.xprs_top.proofs.Tables.{table_with}
 
@@ -144,46 +146,49 @@ pub record IsOver (files : Files) (checked : Checked) (db : List Table) : Type 0
   pub tables : tables_of files checked.catalog ≡ Ok db
   pub built : is_unbuilt checked.program ≡ false
 
-over_same : (goal other : Goal) (checked found : Checked) (db tables : List Table) →
-    ◌≡◌ {A = Result Job Status} (Ok (over goal checked tables)) (Ok (over other found db)) →
+over_same : (goal other : Goal) (machine m : Machine) (checked found : Checked)
+    (db tables : List Table) →
+    ◌≡◌ {A = Result Job Status} (Ok (over goal machine checked tables)) (Ok (over other m found db)) →
     (checked ≡ found) × (tables ≡ db)
-over_same goal other checked found db tables e = (cc, cc)
+over_same goal other machine m checked found db tables e = (cc, cc)
 
-is_over : (files : Files) (goal other : Goal) (checked found : Checked) (db : List Table) →
-    bind (tables_of files checked.catalog) (over_tables goal checked) ≡ Ok (over other found db) →
+is_over : (files : Files) (goal other : Goal) (machine m : Machine) (checked found : Checked)
+    (db : List Table) →
+    bind (tables_of files checked.catalog) (over_tables goal machine checked) ≡
+    Ok (over other m found db) → (checked ≡ found) × IsOver files checked db
+is_over files goal other machine m checked found db e =
+    by (tables_of files checked.catalog) refl e where
+      built : (tables : List Table) → tables_of files checked.catalog ≡ Ok tables →
+          (b : Bool) → is_unbuilt checked.program ≡ b →
+          (if b then Err (NotBuilt Folds) else Ok (over goal machine checked tables)) ≡
+          Ok (over other m found db) → (checked ≡ found) × IsOver files checked db
+      built tables f true g h = absurd cc
+      built tables f false g h =
+          let same = over_same goal other machine m checked found db tables h in
+          (same.0, record { tables = f ∙ ap (λ (ts : List Table). Ok ts) same.1; built = g })
+
+      by : (r : Result (List Table) Status) → tables_of files checked.catalog ≡ r →
+          bind r (over_tables goal machine checked) ≡ Ok (over other m found db) →
+          (checked ≡ found) × IsOver files checked db
+      by (Ok tables) f h = built tables f (is_unbuilt checked.program) refl h
+      by (Err s) f h = absurd cc
+
+by_aim : (files : Files) (aim : Aim) (goal : Goal) (m : Machine) (checked found : Checked)
+    (db : List Table) → job_by files aim checked ≡ Ok (over goal m found db) →
     (checked ≡ found) × IsOver files checked db
-is_over files goal other checked found db e = by (tables_of files checked.catalog) refl e where
-  built : (tables : List Table) → tables_of files checked.catalog ≡ Ok tables →
-      (b : Bool) → is_unbuilt checked.program ≡ b →
-      (if b then Err NotBuilt else Ok (over goal checked tables)) ≡ Ok (over other found db) →
-      (checked ≡ found) × IsOver files checked db
-  built tables f true g h = absurd cc
-  built tables f false g h =
-      let same = over_same goal other checked found db tables h in
-      (same.0, record { tables = f ∙ ap (λ (ts : List Table). Ok ts) same.1; built = g })
-
-  by : (r : Result (List Table) Status) → tables_of files checked.catalog ≡ r →
-      bind r (over_tables goal checked) ≡ Ok (over other found db) →
-      (checked ≡ found) × IsOver files checked db
-  by (Ok tables) f h = built tables f (is_unbuilt checked.program) refl h
-  by (Err s) f h = absurd cc
-
-by_verb : (files : Files) (verb : Verb) (goal : Goal) (checked found : Checked)
-    (db : List Table) → job_by files verb checked ≡ Ok (over goal found db) →
-    (checked ≡ found) × IsOver files checked db
-by_verb files Check goal checked found db e = absurd cc
-by_verb files Alone goal checked found db e = is_over files Answers goal checked found db e
-by_verb files (Explain m) goal checked found db e = is_over files (Plans m) goal checked found db e
+by_aim files Print goal m checked found db e = absurd cc
+by_aim files (Make wanted machine) goal m checked found db e =
+    is_over files wanted goal machine m checked found db e
 
 -- a table for each relation, and queries that may be planned
 pub record MayExplain (checked : Checked) (db : List Table) : Type 0 where
   pub count : length db ≡ length checked.catalog
   pub planned : All (MayPlan checked.catalog) checked.questions
 
-job_planned : (files : Files) (request : Request) (goal : Goal) (found : Checked)
-    (db : List Table) → IsJob files request (Ok (over goal found db)) → MayExplain found db
-job_planned files request goal found db (checked, (relations, c, s), j) =
-    let is = by_verb files request.verb goal checked found db j in
+job_planned : (files : Files) (request : Request) (goal : Goal) (m : Machine) (found : Checked)
+    (db : List Table) → IsJob files request (Ok (over goal m found db)) → MayExplain found db
+job_planned files request goal m found db (checked, (relations, c, s), j) =
+    let is = by_aim files request.aim goal m checked found db j in
     subst (λ (k : Checked). MayExplain k db) is.0 (record {
       count = as_many files checked.catalog db is.1.tables;
       planned = script_plannable files relations request.script checked s
@@ -196,10 +201,10 @@ job_planned files request goal found db (checked, (relations, c, s), j) =
 pub one_text : (files : Files) (request : Request) (job : Job) (a b : List ℕ) →
     IsJob files request (Ok job) → IsText job a → IsText job b → a ≡ b
 one_text files request (write bytes) a b j h k = h ∙ sym k
-one_text files request (over Answers checked db) a b j h k = h ∙ sym k
-one_text files request (over (Plans m) checked db) a b j h k =
-    let may = job_planned files request (Plans m) checked db j in
+one_text files request (over Answers machine checked db) a b j h k = h ∙ sym k
+one_text files request (over (Plans m) machine checked db) a b j h k =
+    let may = job_planned files request (Plans m) machine checked db j in
     let same : h.plans ≡ k.plans =
     one_list checked.catalog db h.tables k.tables m checked.questions h.plans k.plans may.count
     may.planned h.stored k.stored h.best k.best in
-    h.is ∙ (ap (λ (ps : List Planned). explained start_machine [] 0 ps) same ∙ sym k.is)
+    h.is ∙ (ap (λ (ps : List Planned). explained machine [] 0 ps) same ∙ sym k.is)

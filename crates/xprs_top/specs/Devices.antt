@@ -27,9 +27,9 @@ pub record Layout (relations : List Relation) (db : List Table) (drives : ℕ) :
   pub map_of : FileMap
   pub is : IsMapOf tables drives map_of
 
--- there are no drives, or four
-abbrev pub IsCount : ℕ → Type 0
-IsCount n = (n ≡ 0) ⊎ (n ≡ 4)
+-- there are no drives, or so many
+abbrev pub NoneOrAll : ℕ → ℕ → Type 0
+NoneOrAll all n = (n ≡ 0) ⊎ (n ≡ all)
 
 module _ {D : Type 0} (g : Ghosts D) where
   -- a drive that doesn't tell what it holds
@@ -49,10 +49,10 @@ module _ {D : Type 0} (g : Ghosts D) where
   abbrev pub NoneFailed : List D → Type 0
   NoneFailed drives = (d : ℕ) → HasFailed d drives → ⊥
 
-  -- four drives, each with the pages that the tables need there
-  pub record Fit (relations : List Relation) (db : List Table) (drives : List D) : Type 0 where
-    pub count : length drives ≡ 4
-    pub layout : Layout relations db 4
+  -- so many drives, each with the pages that the tables need there
+  pub record Fit (relations : List Relation) (db : List Table) (all : ℕ) (drives : List D) : Type 0 where
+    pub count : length drives ≡ all
+    pub layout : Layout relations db all
     pub room : HaveRoom g layout.map_of drives
 
   -- A page of the heap file of some table whose drive doesn't tell it, and the number of a rule of such pages, 1 to 9.
@@ -78,38 +78,39 @@ module _ {D : Type 0} (g : Ghosts D) where
     pub untold : IsUntold drives
 
   -- this drive is the first one that has fewer pages than the tables need there, and nothing was written
-  pub record IsOverfull (relations : List Relation) (db : List Table) (d needs capacity : ℕ) (drives : List D) : Type 0 where
-    pub count : length drives ≡ 4
-    pub layout : Layout relations db 4
+  pub record IsOverfull (relations : List Relation) (db : List Table) (all d needs capacity : ℕ) (drives : List D) : Type 0 where
+    pub count : length drives ≡ all
+    pub layout : Layout relations db all
     pub full : IsFull g layout.map_of d needs capacity drives
     pub unwritten : AllFresh g drives
 
   -- the same of the tables of a job; a job that only writes has none
   abbrev pub Fits : Job → List D → Type 0
   Fits (write text) drives = ⊥
-  Fits (over goal checked db) drives = Fit checked.catalog db drives
+  Fits (over goal machine checked db) drives = Fit checked.catalog db machine.drives drives
 
   -- a page that was read is bad: for answers one of a heap file, for plans one of an index
   abbrev pub ReadsBad : Job → BadPage → List D → Type 0
   ReadsBad (write text) bad drives = ⊥
-  ReadsBad (over Answers checked db) bad drives =
-      (fit : Fit checked.catalog db drives) × IsBadHeapPage fit.layout.tables fit.layout.map_of bad drives
-  ReadsBad (over (Plans m) checked db) bad drives =
-      (fit : Fit checked.catalog db drives) × IsBadIndexPage fit.layout.tables fit.layout.map_of bad drives
+  ReadsBad (over Answers machine checked db) bad drives =
+      (fit : Fit checked.catalog db machine.drives drives) × IsBadHeapPage fit.layout.tables fit.layout.map_of bad drives
+  ReadsBad (over (Plans m) machine checked db) bad drives =
+      (fit : Fit checked.catalog db machine.drives drives) × IsBadIndexPage fit.layout.tables fit.layout.map_of bad drives
 
   abbrev pub Exceeds : Job → ℕ → ℕ → ℕ → List D → Type 0
   Exceeds (write text) d needs capacity drives = ⊥
-  Exceeds (over goal checked db) d needs capacity drives = IsOverfull checked.catalog db d needs capacity drives
+  Exceeds (over goal machine checked db) d needs capacity drives = IsOverfull checked.catalog db machine.drives d needs capacity drives
 
   -- by every layout of the job's tables each drive has the pages that are needed there
   abbrev pub IsRoomy : Job → List D → Type 0
   IsRoomy (write text) drives = ⊤
-  IsRoomy (over goal checked db) drives = (layout : Layout checked.catalog db 4) → HaveRoom g layout.map_of drives
+  IsRoomy (over goal machine checked db) drives = (layout : Layout checked.catalog db machine.drives) → HaveRoom g layout.map_of drives
 
-  -- A job that only writes a text has no drives. Another one has four, and each one that tells holds exactly its part of the tables.
+  -- A job that only writes a text has no drives. Another one has as many as its machine, and each one that tells holds exactly its
+  -- part of the tables.
   abbrev pub Holds : Job → List D → Type 0
   Holds (write text) drives = drives ≡ []
-  Holds (over goal checked db) drives = (fit : Fit checked.catalog db drives) × HoldImage g fit.layout.map_of fit.layout.tables drives
+  Holds (over goal machine checked db) drives = (fit : Fit checked.catalog db machine.drives drives) × HoldImage g fit.layout.map_of fit.layout.tables drives
 
   -- a text that was made is the job's, where all drives tell, and what shows why none was made
   abbrev pub Makes : Job → ℕ → ℕ → List D → Result (Vec ℕ) Status → Type 0

@@ -9,6 +9,8 @@ use Rattle.catalog_load.specs.declared.fault.TableWhat.{TableWhat}
 use Rattle.catalog_load.specs.declared.fault.TableWhat.TheVariants as table
 use Rattle.xprs_top.specs.declared.status.Status.{Status}
 use Rattle.xprs_top.specs.declared.status.Status.TheVariants.{Done, Usage, Refused, ShelfFault, DriveFault, Bad, SinkFault, NoMemory, DriveFull, NotBuilt}
+use Rattle.xprs_top.specs.declared.status.Unbuilt.{Unbuilt}
+use Rattle.xprs_top.specs.declared.status.Unbuilt.TheVariants as unbuilt
 use Rattle.xprs_top.specs.declared.status.Refused.TheVariants.{Missing, TooLong, Script, Table}
 
 -- the name of a fault of a catalogue or a script
@@ -68,6 +70,13 @@ table_name table.RowTooLong = codes "RowTooLong"
 abbrev pub line : List (List ℕ) → List ℕ
 line parts = flat_map (λ part. part) (codes "xprs: " ∷ parts ++ codes "\n" ∷ [])
 
+-- what isn't built
+abbrev pub unbuilt_name : Unbuilt → List ℕ
+unbuilt_name unbuilt.Run = codes "run is"
+unbuilt_name unbuilt.Generation = codes "gen is"
+unbuilt_name unbuilt.Trace = codes "--trace is"
+unbuilt_name unbuilt.Folds = codes "folds and into are"
+
 abbrev pub fault_line : Status → List ℕ
 fault_line Done = []
 fault_line Usage = line (codes "usage" ∷ [])
@@ -82,7 +91,7 @@ fault_line (Bad bad) = line (codes "bad page: file " ∷ decimal bad.file ∷ co
 fault_line SinkFault = line (codes "output failed" ∷ [])
 fault_line NoMemory = line (codes "no memory" ∷ [])
 fault_line (DriveFull d needs capacity) = line (codes "drive " ∷ decimal d ∷ codes " needs " ∷ decimal needs ∷ codes " pages and has " ∷ decimal capacity ∷ [])
-fault_line NotBuilt = line (codes "folds and into are not built yet" ∷ [])
+fault_line (NotBuilt what) = line (unbuilt_name what ∷ codes " not built yet" ∷ [])
 
 -- a piece of a line
 abbrev pub piece_bytes : Piece → List ℕ
@@ -100,4 +109,4 @@ number_of (Bad bad) = 5
 number_of SinkFault = 6
 number_of NoMemory = 7
 number_of (DriveFull d needs capacity) = 8
-number_of NotBuilt = 9
+number_of (NotBuilt what) = 9

@@ -10,6 +10,7 @@ use Rattle.catalog_load.specs.declared.fault.LoadErr.TheVariants as load_err
 use Rattle.xp_outside.specs.Outside.{Rose}
 use Rattle.xprs_top.specs.declared.status.Status.{Status}
 use Rattle.xprs_top.specs.declared.status.Status.TheVariants.{Done, Usage, Refused, ShelfFault, DriveFault, Bad, SinkFault, NoMemory, DriveFull, NotBuilt}
+use Rattle.xprs_top.specs.declared.status.Unbuilt.TheVariants.{Folds}
 use Rattle.xprs_top.specs.declared.status.Refused.TheVariants.{Missing, TooLong, Script, Table}
 use Rattle.xprs_top.specs.declared.script.ReadScript.{ReadScript}
 use Rattle.xprs_top.specs.declared.input.Checked.{Checked as Input}
@@ -28,7 +29,7 @@ read_of input = checked_of input.catalog input.read
 
 abbrev pub job_of : Task → Job
 job_of (Print text) = write text.items
-job_of (Over goal checked db) = over goal (read_of checked) db
+job_of (Over goal machine checked db) = over goal machine (read_of checked) db
 
 -- a fact about the files, where the shelf tells them
 abbrev pub OnFiles : Option Files → (Files → Type 0) → Type 0
@@ -46,7 +47,7 @@ Shows told before now (Bad bad) read = ⊥
 Shows told before now SinkFault read = ⊥
 Shows told before now NoMemory read = Unit {0}
 Shows told before now (DriveFull d needs capacity) read = ⊥
-Shows told before now NotBuilt read = OnFiles told (λ files. read files (Err NotBuilt))
+Shows told before now (NotBuilt what) read = (what ≡ Folds) × OnFiles told (λ files. read files (Err (NotBuilt what)))
 
 -- what was read is what the files are read as
 abbrev pub Told : {X A : Type 0} → Option Files → ℕ → ℕ → (X → A) → Result X Status → (Files → Result A Status → Type 0) → Type 0
@@ -64,7 +65,7 @@ Refuses (Bad bad) read = ⊥
 Refuses SinkFault read = ⊥
 Refuses NoMemory read = Unit {0}
 Refuses (DriveFull d needs capacity) read = ⊥
-Refuses NotBuilt read = read (Err NotBuilt)
+Refuses (NotBuilt what) read = (what ≡ Folds) × read (Err (NotBuilt what))
 
 -- what was found is what is read
 abbrev pub Finds : {X A : Type 0} → (X → A) → Result X Status → (Result A Status → Type 0) → Type 0

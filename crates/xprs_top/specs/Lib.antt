@@ -1,6 +1,6 @@
 pub mod Answers
 pub mod Faults
-pub mod Words
+pub mod Requests
 pub mod Readings
 pub mod Texts
 pub mod Inputs

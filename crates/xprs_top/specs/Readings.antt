@@ -1,6 +1,7 @@
 -- What files are read as: a value or a fault.
 use Rattle.std.specs.Prelude.{◌≡◌, ◌⊎◌, ℕ, Bool, ◌||◌, List, [], ◌∷◌, map, length, nat_le, if◌then◌else◌, Option, Some, None, Result, Ok, Err}
 use Rattle.std.specs.List.{list_any}
+use Rattle.rows.specs.declared.plain.Machine.{Machine}
 use Rattle.rows.specs.declared.plain.Relation.{Relation}
 use Rattle.rows.specs.declared.plain.Step.{Step}
 use Rattle.rows.specs.declared.value.Value.{Value}
@@ -25,11 +26,11 @@ use Rattle.xp_outside.specs.Outside.{file_at}
 use Rattle.xprs_top.specs.declared.status.Status.{Status}
 use Rattle.xprs_top.specs.declared.status.Status.TheVariants.{Refused, NotBuilt, NoMemory}
 use Rattle.xprs_top.specs.declared.status.Refused.TheVariants.{Missing, TooLong, Script, Table as TableFault}
-use Rattle.xprs_top.specs.declared.words.Verb.{Verb}
+use Rattle.xprs_top.specs.declared.status.Unbuilt.TheVariants.{Folds}
+use Rattle.xprs_top.specs.declared.goal.Aim.{Aim}
+use Rattle.xprs_top.specs.declared.goal.Aim.TheVariants.{Print, Make}
 use Rattle.xprs_top.specs.declared.goal.Goal.{Goal}
-use Rattle.xprs_top.specs.declared.goal.Goal.TheVariants.{Answers, Plans}
-use Rattle.xprs_top.specs.declared.words.Verb.TheVariants.{Alone, Check, Explain}
-use Rattle.xprs_top.specs.Words.{Request}
+use Rattle.xprs_top.specs.Requests.{Request}
 
 abbrev pub Files : Type 0
 Files = List (List ℕ × List ℕ)
@@ -118,20 +119,20 @@ tables_of files (relation ∷ relations) =
 abbrev pub is_unbuilt : Program → Bool
 is_unbuilt program = list_any has_fold program.sentences || list_any is_kept program.sentences
 
--- what a run is to do: write this text, or make what is asked for of the questions of a script and the tables of its catalogue
+-- What a run is to do: write this text, or make what is asked for of the questions of a script and the tables of its catalogue, by
+-- a machine.
 pub data Job : Type 0 where
   write : List ℕ → Job
-  over : Goal → Checked → List Table → Job
+  over : Goal → Machine → Checked → List Table → Job
 
-abbrev pub over_tables : Goal → Checked → List Table → Result Job Status
-over_tables goal checked db = if is_unbuilt checked.program then Err NotBuilt else Ok (over goal checked db)
+abbrev pub over_tables : Goal → Machine → Checked → List Table → Result Job Status
+over_tables goal machine checked db = if is_unbuilt checked.program then Err (NotBuilt Folds) else Ok (over goal machine checked db)
 
-abbrev pub job_by : Files → Verb → Checked → Result Job Status
-job_by files Check checked = Ok (write (script_text checked.program))
-job_by files Alone checked = bind (tables_of files checked.catalog) (over_tables Answers checked)
-job_by files (Explain m) checked = bind (tables_of files checked.catalog) (over_tables (Plans m) checked)
+abbrev pub job_by : Files → Aim → Checked → Result Job Status
+job_by files Print checked = Ok (write (script_text checked.program))
+job_by files (Make goal machine) checked = bind (tables_of files checked.catalog) (over_tables goal machine checked)
 
--- The job that is asked for: of `check` to write the script as it prints, of `alone` to answer it and of `explain` to show its plans, for
--- both of which all tables are read.
+-- The job that is asked for: to write the script as it prints, or to answer it or show its plans, for both of which all tables are
+-- read.
 abbrev pub IsJob : Files → Request → Result Job Status → Type 0
-IsJob files request = Then (IsChecked files request) (λ checked. Just (job_by files request.verb checked))
+IsJob files request = Then (IsChecked files request) (λ checked. Just (job_by files request.aim checked))

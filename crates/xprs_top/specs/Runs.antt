@@ -3,27 +3,37 @@ use Rattle.std.specs.Prelude.{◌≡◌, ◌⊎◌, ℕ, List, [], Option, Some,
 use Rattle.std.specs.Global.{Vec}
 use Rattle.xp_outside.specs.Outside.{Rose, appended, AppendsFront}
 use Rattle.xp_outside.specs.declared.drive.Drive.{Ghosts}
+use Rattle.xp_outside.specs.declared.drive.Rack as rack
+use Rattle.xp_outside.specs.declared.shelf.Shelf as shelf
+use Rattle.xp_outside.specs.declared.sink.Sink as sink
 use Rattle.table_store.specs.Readings.{AllTell}
+use Rattle.xprs_top.specs.declared.goal.Aim.{Aim}
+use Rattle.xprs_top.specs.declared.goal.Aim.TheVariants.{Print, Make}
 use Rattle.xprs_top.specs.declared.status.Status.{Status}
 use Rattle.xprs_top.specs.declared.status.Status.TheVariants.{Done, Usage, Refused, ShelfFault, DriveFault, Bad, SinkFault, NoMemory, DriveFull, NotBuilt}
-use Rattle.xprs_top.specs.declared.words.Verb.{Verb}
-use Rattle.xprs_top.specs.declared.words.Verb.TheVariants.{Alone, Check, Explain}
-use Rattle.xprs_top.specs.Devices.{Exceeds, Fits, HasFailed, Holds, IsRoomy, NoneFailed, ReadsBad}
+use Rattle.xprs_top.specs.declared.status.Unbuilt.{Unbuilt}
+use Rattle.xprs_top.specs.declared.status.Unbuilt.TheVariants.{Folds}
+use Rattle.xprs_top.specs.Devices.{Exceeds, Fits, HasFailed, Holds, IsRoomy, NoneFailed, NoneOrAll, ReadsBad}
 use Rattle.xprs_top.specs.Faults.{fault_line}
 use Rattle.xprs_top.specs.Inputs.{OnFiles}
 use Rattle.xprs_top.specs.Readings.{Files, IsJob, Job}
+use Rattle.xprs_top.specs.Requests.{Form, Request, drives_for}
 use Rattle.xprs_top.specs.Texts.{IsText}
-use Rattle.xprs_top.specs.Words.{Request}
 
--- the words are a form, and where the shelf tells its files they give this job
-abbrev pub Asks : Option Files → Option Request → Job → Type 0
-Asks told None job = ⊥
-Asks told (Some request) job = OnFiles told (λ files. IsJob files request (Ok job))
+-- the words ask for something, and where the shelf tells its files they give this job
+abbrev pub Asks : Option Files → Form → Job → Type 0
+Asks told (Err status) job = ⊥
+Asks told (Ok request) job = OnFiles told (λ files. IsJob files request (Ok job))
 
--- the words are a form, and where the shelf tells its files they have this fault
-abbrev pub Faulty : Option Files → Option Request → Status → Type 0
-Faulty told None status = ⊥
-Faulty told (Some request) status = OnFiles told (λ files. IsJob files request (Err status))
+-- the words ask for something, and where the shelf tells its files they have this fault
+abbrev pub Faulty : Option Files → Form → Status → Type 0
+Faulty told (Err other) status = ⊥
+Faulty told (Ok request) status = OnFiles told (λ files. IsJob files request (Err status))
+
+-- the words alone ask for what isn't built, or the files have folds
+abbrev pub IsUnbuilt : Option Files → Form → Unbuilt → Type 0
+IsUnbuilt told form what =
+    (form ≡ Err (NotBuilt what)) ⊎ ((what ≡ Folds) × Faulty told form (NotBuilt what))
 
 -- what can be seen of a run from outside: the files that the shelf tells, the counts of faults of the shelf, of the rack
 -- and of the output before and after, and what the output had got before and after
@@ -38,26 +48,41 @@ pub record Outside : Type 0 where
   pub old : Option (List ℕ)
   pub new : Option (List ℕ)
 
-abbrev pub outside : Option Files → ℕ → ℕ → ℕ → ℕ → ℕ → ℕ → Option (List ℕ) → Option (List ℕ) → Outside
-outside files sb sn rb rn ob on old new =
-    record { files = files; shelf_before = sb; shelf_now = sn; rack_before = rb; rack_now = rn; out_before = ob; out_now = on; old = old; new = new }
+-- the same of a shelf, a rack and an output before and after
+abbrev pub seen : {S K D W : Type 0} → shelf.Ghosts S → rack.Ghosts K D → sink.Ghosts W → S → S → K → K → W → W → Outside
+seen g h k shelf_old shelf_new rack_old rack_new out_old out_new =
+    record {
+      files = g.files shelf_old;
+      shelf_before = g.faults shelf_old;
+      shelf_now = g.faults shelf_new;
+      rack_before = h.faults rack_old;
+      rack_now = h.faults rack_new;
+      out_before = k.faults out_old;
+      out_now = k.faults out_new;
+      old = k.written out_old;
+      new = k.written out_new;
+    }
 
--- the words ask to check a script
-abbrev pub IsCheck : Verb → Type 0
-IsCheck Check = ⊤
-IsCheck Alone = ⊥
-IsCheck (Explain m) = ⊥
+-- the words ask for a script in its printed form
+abbrev pub IsCheck : Aim → Type 0
+IsCheck Print = ⊤
+IsCheck (Make goal machine) = ⊥
 
-abbrev pub AsksCheck : Option Request → Type 0
-AsksCheck None = ⊥
-AsksCheck (Some request) = IsCheck request.verb
+abbrev pub AsksCheck : Form → Type 0
+AsksCheck (Err status) = ⊥
+AsksCheck (Ok request) = IsCheck request.aim
+
+-- no drives, or all that the words ask for
+abbrev pub IsCount : Form → ℕ → Type 0
+IsCount (Err status) n = n ≡ 0
+IsCount (Ok request) n = NoneOrAll (drives_for request.aim) n
 
 -- a status that comes before drives are mounted
 abbrev pub IsEarly : Status → Type 0
 IsEarly Usage = ⊤
 IsEarly (Refused r) = ⊤
 IsEarly ShelfFault = ⊤
-IsEarly NotBuilt = ⊤
+IsEarly (NotBuilt what) = ⊤
 IsEarly other = ⊥
 
 -- a text that was made is written, or the output has failed and got a front of it
@@ -81,16 +106,21 @@ IsThisOrShelfFaultOrNoMemory fault ShelfFault = Unit {0}
 IsThisOrShelfFaultOrNoMemory fault NoMemory = Unit {0}
 IsThisOrShelfFaultOrNoMemory fault status = status ≡ fault
 
+-- words that ask for nothing have their status, or memory is wanting
+abbrev pub IsTurnedAway : Status → Status → Type 0
+IsTurnedAway wanted NoMemory = Unit {0}
+IsTurnedAway wanted status = status ≡ wanted
+
 -- over told files that have a fault, the run answers that fault, unless the shelf fails or memory is wanting
-abbrev pub Refuses : Option Request → Outside → Status → Type 0
-Refuses form o status = (request : Request) (files : Files) (fault : Status) → form ≡ Some request → o.files ≡ Some files → IsJob files request (Err fault) →
+abbrev pub Refuses : Form → Outside → Status → Type 0
+Refuses form o status = (request : Request) (files : Files) (fault : Status) → form ≡ Ok request → o.files ≡ Some files → IsJob files request (Err fault) →
     IsThisOrShelfFaultOrNoMemory fault status
 
 module _ {D : Type 0} (g : Ghosts D) where
   -- what shows each status, the drives that are handed back, and what the output got
-  abbrev pub Caused : Option Request → Outside → List D → Status → Type 0
+  abbrev pub Caused : Form → Outside → List D → Status → Type 0
   Caused form o drives Done = (job : Job) × Asks o.files form job × Holds g job drives × (AllTell g drives → (text : List ℕ) × IsText job text × (o.new ≡ appended o.old text))
-  Caused form o drives Usage = (form ≡ None) × (drives ≡ []) × (o.new ≡ o.old)
+  Caused form o drives Usage = (form ≡ Err Usage) × (drives ≡ []) × (o.new ≡ o.old)
   Caused form o drives (Refused r) = Faulty o.files form (Refused r) × (drives ≡ []) × (o.new ≡ o.old)
   Caused form o drives ShelfFault = Rose o.shelf_before o.shelf_now × (drives ≡ []) × (o.new ≡ o.old)
   Caused form o drives (DriveFault None) = (job : Job) × Asks o.files form job × Rose o.rack_before o.rack_now × (drives ≡ []) × (o.new ≡ o.old)
@@ -99,11 +129,11 @@ module _ {D : Type 0} (g : Ghosts D) where
   Caused form o drives SinkFault = (job : Job) × Rose o.out_before o.out_now × Asks o.files form job × Holds g job drives × (AllTell g drives → (text : List ℕ) × IsText job text × AppendsFront o.old o.new text)
   Caused form o drives NoMemory = o.new ≡ o.old
   Caused form o drives (DriveFull d needs capacity) = (job : Job) × Asks o.files form job × Exceeds g job d needs capacity drives × (o.new ≡ o.old)
-  Caused form o drives NotBuilt = Faulty o.files form NotBuilt × (drives ≡ []) × (o.new ≡ o.old)
+  Caused form o drives (NotBuilt what) = IsUnbuilt o.files form what × (drives ≡ []) × (o.new ≡ o.old)
 
   -- over told files that give a job, drives that all tell, none of which has failed and each with room for the tables, and with no fault of the
   -- shelf, the rack or the output, the run is done or lacks memory
-  abbrev pub Completes : Option Request → Outside → List D → Status → Type 0
-  Completes form o drives status = (request : Request) (files : Files) (job : Job) → form ≡ Some request → o.files ≡ Some files → IsJob files request (Ok job) →
+  abbrev pub Completes : Form → Outside → List D → Status → Type 0
+  Completes form o drives status = (request : Request) (files : Files) (job : Job) → form ≡ Ok request → o.files ≡ Some files → IsJob files request (Ok job) →
       AllTell g drives → NoneFailed g drives → IsRoomy g job drives →
       (Rose o.shelf_before o.shelf_now → ⊥) → (Rose o.rack_before o.rack_now → ⊥) → (Rose o.out_before o.out_now → ⊥) → IsDoneOrNoMemory status

@@ -18,27 +18,23 @@ use Rattle.xprs_top.specs.declared.goal.Goal.TheVariants.{Answers, Plans}
 use Rattle.xprs_top.specs.Answers.{answers_bytes}
 use Rattle.xprs_top.specs.Readings.{Checked, Job, write, over}
 
--- four backends, four drives, and eight positions claimed at once
-abbrev pub start_machine : Machine
-start_machine = record { backends = 4; drives = 4; batch = 8 }
-
 -- For each question the lines of its best plan under a method, by what is counted of the tables as they are stored.
-pub record IsExplained (m : Method) (checked : Checked) (db : List Table) (text : List ℕ) : Type 0 where
+pub record IsExplained (m : Method) (machine : Machine) (checked : Checked) (db : List Table) (text : List ℕ) : Type 0 where
   pub tables : List StoredTable
   pub stored : AreStored checked.catalog db tables
   pub plans : List Planned
   pub best : AreBestPlans checked.catalog tables m checked.questions plans
-  pub is : text ≡ explained start_machine [] 0 plans
+  pub is : text ≡ explained machine [] 0 plans
 
 -- the text that is to be written, the answers of the questions, or their plans
 abbrev pub IsText : Job → List ℕ → Type 0
 IsText (write bytes) text = text ≡ bytes
-IsText (over Answers checked db) text = text ≡ answers_bytes db checked.questions
-IsText (over (Plans m) checked db) text = IsExplained m checked db text
+IsText (over Answers machine checked db) text = text ≡ answers_bytes db checked.questions
+IsText (over (Plans m) machine checked db) text = IsExplained m machine checked db text
 
 -- the text of plans that were made, or why there is none
-abbrev pub Explains : Result (List Plan) FetchErr → Result (Vec ℕ) Status → Type 0
-Explains (Ok plans) (Ok text) = text.items ≡ explained start_machine [] 0 (map planned_of plans)
-Explains (Ok plans) (Err NoMemory) = ⊤
-Explains (Ok plans) (Err other) = ⊥
-Explains (Err e) result = result ≡ Err (of_fetch e)
+abbrev pub Explains : Machine → Result (List Plan) FetchErr → Result (Vec ℕ) Status → Type 0
+Explains machine (Ok plans) (Ok text) = text.items ≡ explained machine [] 0 (map planned_of plans)
+Explains machine (Ok plans) (Err NoMemory) = ⊤
+Explains machine (Ok plans) (Err other) = ⊥
+Explains machine (Err e) result = result ≡ Err (of_fetch e)

@@ -10,14 +10,17 @@ ghost use Rattle.xprs_top.specs.Counts.{NoOtherFailed, failed_drive};
 ghost use Rattle.xprs_top.specs.Devices.{Makes};
 ghost use Rattle.xprs_top.specs.Inputs.{read_of};
 ghost use Rattle.xprs_top.specs.Readings.{over};
+ghost use Rattle.xprs_top.specs.Requests.{HasMachine};
 ghost use Rattle.xprs_top.specs.Tasks.{IsAnswerable};
 
 use crate::Status;
+use crate::goal::Aim;
 use crate::input::Checked;
 use crate::made::Made;
 use crate::spelling::answer_text;
 use heap_page::block_laws;
 use rel_meaning::{Database, Query, answer_plain};
+use rows::Machine;
 use std::alloc::{AllocError, Global};
 use table_store::{lay_database, read_database};
 use xp_outside::Drive;
@@ -71,14 +74,16 @@ fn answers(alloc: Global, db: &Database, queries: &[Query]) -> Result<Vec<u8>, A
 fn laid_answers<D: Drive>(
     alloc: Global,
     drives: &mut [D],
+    machine: &Machine,
     checked: &Checked,
     db: Database,
 ) -> Result<Vec<u8>, Status>
-    requires count { length drives.old ≡ 4 }
+    requires some { HasMachine (Aim.Make Answers machine.now) }
+    requires count { length drives.old ≡ machine.now.drives }
     requires fresh { AllFresh D.Drive drives.old }
     requires answerable { IsAnswerable checked.now db }
-    ensures count { length drives.new ≡ 4 }
-    ensures made { (before now : ℕ) → Makes D.Drive (over Answers (read_of checked.now) db) before now drives.new result }
+    ensures count { length drives.new ≡ machine.now.drives }
+    ensures made { (before now : ℕ) → Makes D.Drive (over Answers machine.now (read_of checked.now) db) before now drives.new result }
     ensures quiet { NoOtherFailed D.Drive (failed_drive result) drives.new }
 {
     block_laws();
@@ -97,17 +102,19 @@ fn laid_answers<D: Drive>(
 pub(crate) fn answered<D: Drive>(
     alloc: Global,
     drives: Vec<D>,
+    machine: &Machine,
     checked: &Checked,
     db: Database,
 ) -> Made<D>
-    requires count { length drives.items ≡ 4 }
+    requires some { HasMachine (Aim.Make Answers machine.now) }
+    requires count { length drives.items ≡ machine.now.drives }
     requires fresh { AllFresh D.Drive drives.items }
     requires answerable { IsAnswerable checked.now db }
-    ensures count { length result.drives.items ≡ 4 }
-    ensures made { (before now : ℕ) → Makes D.Drive (over Answers (read_of checked.now) db) before now result.drives.items result.text }
+    ensures count { length result.drives.items ≡ machine.now.drives }
+    ensures made { (before now : ℕ) → Makes D.Drive (over Answers machine.now (read_of checked.now) db) before now result.drives.items result.text }
     ensures quiet { NoOtherFailed D.Drive (failed_drive result.text) result.drives.items }
 {
     let mut drives = drives;
-    let text = laid_answers(alloc, drives.as_mut_slice(), checked, db);
+    let text = laid_answers(alloc, drives.as_mut_slice(), machine, checked, db);
     Made { text, drives }
 }

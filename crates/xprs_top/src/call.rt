@@ -1,14 +1,14 @@
-ghost use Rattle.std.specs.Prelude.{◌≡◌, ◌≢◌, None, [], length, map, string_bytes};
+ghost use Rattle.std.specs.Prelude.{◌≡◌, ◌≢◌, IfErr, Ok, [], length, map, string_bytes};
 ghost use Rattle.xp_outside.specs.Outside.{Stands};
 ghost use Rattle.xprs_top.specs.Counts.{NoOtherFailed, failed_drive, named_drive};
-ghost use Rattle.xprs_top.specs.Devices.{IsCount};
-ghost use Rattle.xprs_top.specs.Runs.{AsksCheck, Caused, Completes, IsEarly, Poured, Refuses, Tells, outside};
-ghost use Rattle.xprs_top.specs.Words.{form_of};
+ghost use Rattle.xprs_top.specs.Requests.{HasMachine, asked_by, request_of};
+ghost use Rattle.xprs_top.specs.Runs.{AsksCheck, Caused, Completes, IsCount, IsEarly, IsTurnedAway};
+ghost use Rattle.xprs_top.specs.Runs.{Poured, Refuses, Tells, seen};
 
 use crate::made::Made;
 use crate::making::make;
 use crate::task::read_task;
-use crate::words::read_words;
+use crate::words::{Operands, operands_in};
 use crate::{Outcome, Status, pour_fault};
 use std::alloc::Global;
 use xp_outside::{Rack, Shelf, Sink, pour};
@@ -41,6 +41,33 @@ fn poured<W: Sink, D>(out: &mut W, made: Made<D>) -> Outcome<D>
     Outcome { status, drives }
 }
 
+// A run over the files that the words name.
+fn run_over<S: Shelf, K: Rack, W: Sink>(
+    alloc: Global,
+    operands: &Operands<'_>,
+    shelf: &mut S,
+    rack: &mut K,
+    out: &mut W,
+) -> Outcome<K::Drive>
+    requires { HasMachine operands.now.aim }
+    ensures files { S.files shelf.new ≡ S.files shelf.old }
+    ensures cause { Caused K.Drive.Drive (Ok (request_of operands.now))
+        (seen S.Shelf K.Rack W.Sink shelf.old shelf.new rack.old rack.new out.old out.new)
+        result.drives.items result.status }
+    ensures check { AsksCheck (Ok (request_of operands.now)) → (rack.new ≡ rack.old) × (result.drives.items ≡ []) }
+    ensures early { IsEarly result.status → rack.new ≡ rack.old }
+    ensures shelf { result.status ≢ Status.ShelfFault → Stands (S.faults shelf.old) (S.faults shelf.new) }
+    ensures rack { result.status ≢ Status.DriveFault None → Stands (K.faults rack.old) (K.faults rack.new) }
+    ensures out { result.status ≢ Status.SinkFault → Stands (W.faults out.old) (W.faults out.new) }
+    ensures others { NoOtherFailed K.Drive.Drive (named_drive result.status) result.drives.items }
+    ensures count { IsCount (Ok (request_of operands.now)) (length result.drives.items) }
+{
+    match read_task(alloc, shelf, operands) {
+        Ok(task) => poured(out, make(alloc, rack, task)),
+        Err(status) => early(alloc, status),
+    }
+}
+
 // A run without its line.
 fn run<S: Shelf, K: Rack, W: Sink>(
     alloc: Global,
@@ -49,32 +76,33 @@ fn run<S: Shelf, K: Rack, W: Sink>(
     rack: &mut K,
     out: &mut W,
 ) -> Outcome<K::Drive>
+    ensures words { IfErr (asked_by (map string_bytes words.now)) (λ wanted.
+        IsTurnedAway wanted result.status × (shelf.new ≡ shelf.old) × (rack.new ≡ rack.old)) }
     ensures files { S.files shelf.new ≡ S.files shelf.old }
-    ensures cause { Caused K.Drive.Drive (form_of (map string_bytes words.now)) (outside (S.files shelf.old) (S.faults shelf.old) (S.faults shelf.new) (K.faults rack.old) (K.faults rack.new) (W.faults out.old) (W.faults out.new) (W.written out.old) (W.written out.new)) result.drives.items result.status }
-    ensures usage { form_of (map string_bytes words.now) ≡ None → result.status ≡ Status.Usage }
-    ensures check { AsksCheck (form_of (map string_bytes words.now)) → (rack.new ≡ rack.old) × (result.drives.items ≡ []) }
+    ensures cause { Caused K.Drive.Drive (asked_by (map string_bytes words.now))
+        (seen S.Shelf K.Rack W.Sink shelf.old shelf.new rack.old rack.new out.old out.new)
+        result.drives.items result.status }
+    ensures check { AsksCheck (asked_by (map string_bytes words.now)) → (rack.new ≡ rack.old) × (result.drives.items ≡ []) }
     ensures early { IsEarly result.status → rack.new ≡ rack.old }
     ensures shelf { result.status ≢ Status.ShelfFault → Stands (S.faults shelf.old) (S.faults shelf.new) }
     ensures rack { result.status ≢ Status.DriveFault None → Stands (K.faults rack.old) (K.faults rack.new) }
     ensures out { result.status ≢ Status.SinkFault → Stands (W.faults out.old) (W.faults out.new) }
     ensures others { NoOtherFailed K.Drive.Drive (named_drive result.status) result.drives.items }
-    ensures count { IsCount (length result.drives.items) }
+    ensures count { IsCount (asked_by (map string_bytes words.now)) (length result.drives.items) }
 {
-    let Some(operands) = read_words(words) else {
-        return early(alloc, Status::Usage);
-    };
-    match read_task(alloc, shelf, &operands) {
-        Ok(task) => poured(out, make(alloc, rack, task)),
+    match operands_in(alloc, words) {
+        Ok(operands) => run_over(alloc, &operands, shelf, rack, out),
         Err(status) => early(alloc, status),
     }
 }
 
 /// Does all that the program does, on one thread: reads the words, fetches and reads the catalogue and the script, and
 /// writes a text to `out` and the line of a fault to `err`. For `check` the text is the script in its printed form. For
-/// `alone` the tables are fetched and read in catalogue order, laid on four drives and read back page by page, and the
-/// text is the answers of the statements over what was read. For `explain` they are laid on four drives, and the text
-/// is the plans of the statements by what was written: counts of pages and rows, and searches in the indexes. The drives are handed back wherever they were mounted. It
-/// always returns. A failure of `err` changes nothing else.
+/// `alone` the tables are fetched and read in catalogue order, laid on as many drives as the words say and read back page
+/// by page, and the text is the answers of the statements over what was read. For `explain` they are laid on the drives,
+/// and the text is the plans of the statements by what was written: counts of pages and rows, and searches in the indexes.
+/// The drives are handed back wherever they were mounted. `gen` and a trace aren't built yet, and `run` is for another
+/// call. It always returns. A failure of `err` changes nothing else.
 pub fn answer_alone<S: Shelf, K: Rack, W: Sink, E: Sink>(
     alloc: Global,
     words: &[String],
@@ -88,20 +116,28 @@ pub fn answer_alone<S: Shelf, K: Rack, W: Sink, E: Sink>(
     // output got nothing. Bad names one of the rules 1 to 9 and, for `alone`, a page of a table's heap file that its drive
     // doesn't tell, and for `explain` a page of an index, where some drive doesn't tell. At DriveFull the drives are as they
     // were mounted: zeros where they tell.
-    ensures cause { Caused K.Drive.Drive (form_of (map string_bytes words.now)) (outside (S.files shelf.old) (S.faults shelf.old) (S.faults shelf.new) (K.faults rack.old) (K.faults rack.new) (W.faults out.old) (W.faults out.new) (W.written out.old) (W.written out.new)) result.drives.items result.status }
-    // Usage comes wherever the words are no form; by the clause before it comes nowhere else.
-    ensures usage { form_of (map string_bytes words.now) ≡ None → result.status ≡ Status.Usage }
+    ensures cause { Caused K.Drive.Drive (asked_by (map string_bytes words.now))
+        (seen S.Shelf K.Rack W.Sink shelf.old shelf.new rack.old rack.new out.old out.new)
+        result.drives.items result.status }
+    // Words that ask for nothing that this call does have the status that they are given, unless memory is wanting, before
+    // any file is fetched. By the clause before it these statuses come nowhere else.
+    ensures words { IfErr (asked_by (map string_bytes words.now)) (λ wanted.
+        IsTurnedAway wanted result.status × (shelf.new ≡ shelf.old) × (rack.new ≡ rack.old)) }
     // A fault of told files is answered, unless the shelf fails or memory is wanting.
-    ensures refuses { Refuses (form_of (map string_bytes words.now)) (outside (S.files shelf.old) (S.faults shelf.old) (S.faults shelf.new) (K.faults rack.old) (K.faults rack.new) (W.faults out.old) (W.faults out.new) (W.written out.old) (W.written out.new)) result.status }
+    ensures refuses { Refuses (asked_by (map string_bytes words.now))
+        (seen S.Shelf K.Rack W.Sink shelf.old shelf.new rack.old rack.new out.old out.new)
+        result.status }
     // Told files without a fault are answered over drives that tell and have room, unless the shelf, the rack, a drive or the
     // output fails or memory is wanting.
-    ensures complete { Completes K.Drive.Drive (form_of (map string_bytes words.now)) (outside (S.files shelf.old) (S.faults shelf.old) (S.faults shelf.new) (K.faults rack.old) (K.faults rack.new) (W.faults out.old) (W.faults out.new) (W.written out.old) (W.written out.new)) result.drives.items result.status }
+    ensures complete { Completes K.Drive.Drive (asked_by (map string_bytes words.now))
+        (seen S.Shelf K.Rack W.Sink shelf.old shelf.new rack.old rack.new out.old out.new)
+        result.drives.items result.status }
     // The second output got the status's line, or a front of it where that output failed.
     ensures line { Tells (E.written err.old) (E.written err.new) (E.faults err.old) (E.faults err.new) result.status }
     // The files stay what they were. The rack is touched neither for `check` nor before the input was accepted. All drives
-    // of a rack are handed back, or none were mounted.
+    // that the words ask for are handed back, or none were mounted.
     ensures files { S.files shelf.new ≡ S.files shelf.old }
-    ensures check { AsksCheck (form_of (map string_bytes words.now)) → (rack.new ≡ rack.old) × (result.drives.items ≡ []) }
+    ensures check { AsksCheck (asked_by (map string_bytes words.now)) → (rack.new ≡ rack.old) × (result.drives.items ≡ []) }
     ensures early { IsEarly result.status → rack.new ≡ rack.old }
     // A count that has risen is answered as that failure: at every other status, want of memory among them, the counts of
     // the shelf, the rack and the output stand, and of the drives none has failed but the one that is named.
@@ -109,7 +145,7 @@ pub fn answer_alone<S: Shelf, K: Rack, W: Sink, E: Sink>(
     ensures rack { result.status ≢ Status.DriveFault None → Stands (K.faults rack.old) (K.faults rack.new) }
     ensures out { result.status ≢ Status.SinkFault → Stands (W.faults out.old) (W.faults out.new) }
     ensures others { NoOtherFailed K.Drive.Drive (named_drive result.status) result.drives.items }
-    ensures count { IsCount (length result.drives.items) }
+    ensures count { IsCount (asked_by (map string_bytes words.now)) (length result.drives.items) }
 {
     let outcome = run(alloc, words, shelf, rack, out);
     let _ = pour_fault(err, &outcome.status);

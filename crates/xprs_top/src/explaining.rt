@@ -1,6 +1,7 @@
 //! The plans of statements over tables on drives.
-ghost use Rattle.std.specs.Prelude.{◌≡◌, ◌≤◌, ℕ, IfOk, IfErr, All, length, map};
+ghost use Rattle.std.specs.Prelude.{◌≡◌, ◌≤◌, ◌<◌, ◌^◌, ℕ, IfOk, IfErr, All, length, map};
 ghost use Rattle.heap_page.specs.Stores.{AreQuiet, store_fault};
+ghost use Rattle.io_cpu_scheduler.specs.Limits.{IsMachine};
 ghost use Rattle.rows.specs.declared.plain.Relation.{Relation};
 ghost use Rattle.table_store.specs.Databases.{AllFresh, AreKept, IsLaidOut, LayoutCause, MayStore};
 ghost use Rattle.xprs_top.specs.Counts.{NoOtherFailed, failed_drive};
@@ -8,10 +9,12 @@ ghost use Rattle.xprs_top.specs.declared.goal.Goal.TheVariants.{Plans};
 ghost use Rattle.xprs_top.specs.Devices.{Makes};
 ghost use Rattle.xprs_top.specs.Inputs.{read_of};
 ghost use Rattle.xprs_top.specs.Readings.{over};
+ghost use Rattle.xprs_top.specs.Requests.{HasMachine};
 ghost use Rattle.xprs_top.specs.Tasks.{IsAnswerable};
 ghost use Rattle.xprs_top.specs.Texts.{Explains};
 
 use crate::Status;
+use crate::goal::Aim;
 use crate::input::Checked;
 use crate::made::Made;
 use heap_page::{FetchErr, StoreErr};
@@ -23,13 +26,6 @@ use rows::{Catalog, Machine};
 use std::alloc::{AllocError, Global};
 use table_store::{Laid, lay_database};
 use xp_outside::Drive;
-
-/// The machine that explanations are for.
-const START: Machine = Machine {
-    backends: 4,
-    drives: 4,
-    batch: 8,
-};
 
 // Tables on drives, and how many rows each of them has.
 struct Counted {
@@ -56,7 +52,8 @@ fn lay_counted<D: Drive>(
     catalog: &Catalog,
     db: Database,
 ) -> Result<Counted, StoreErr>
-    requires count { length drives.old ≡ 4 }
+    requires some { 0 < length drives.old }
+    requires count { length drives.old < 2 ^ 32 }
     requires stored { MayStore catalog.now db }
     ensures kept { AreKept D.Drive drives.old drives.new }
     ensures laid { IfOk result (λ c. IsLaidOut D.Drive catalog.now db drives.old drives.new c.laid) }
@@ -70,27 +67,34 @@ fn lay_counted<D: Drive>(
 }
 
 // The text of plans that were made.
-fn plans_text(alloc: Global, plans: Result<PlanList, FetchErr>) -> Result<Vec<u8>, Status>
-    ensures { Explains plans result }
+fn plans_text(
+    alloc: Global,
+    plans: Result<PlanList, FetchErr>,
+    machine: &Machine,
+) -> Result<Vec<u8>, Status>
+    requires { IsMachine machine.now }
+    ensures { Explains machine.now plans result }
 {
     let plans = plans?;
     let fragments = Sequence::new(alloc);
-    Ok(explain_text(alloc, &plans, &fragments, &START)?)
+    Ok(explain_text(alloc, &plans, &fragments, machine)?)
 }
 
 /// The plans of a checked script over its tables, which are laid on these drives.
 pub(crate) fn explained<D: Drive>(
     alloc: Global,
     drives: Vec<D>,
+    machine: &Machine,
     checked: &Checked,
     db: Database,
     method: Method,
 ) -> Made<D>
-    requires count { length drives.items ≡ 4 }
+    requires some { HasMachine (Aim.Make (Plans method) machine.now) }
+    requires count { length drives.items ≡ machine.now.drives }
     requires fresh { AllFresh D.Drive drives.items }
     requires answerable { IsAnswerable checked.now db }
-    ensures count { length result.drives.items ≡ 4 }
-    ensures made { (before now : ℕ) → Makes D.Drive (over (Plans method) (read_of checked.now) db) before now result.drives.items result.text }
+    ensures count { length result.drives.items ≡ machine.now.drives }
+    ensures made { (before now : ℕ) → Makes D.Drive (over (Plans method) machine.now (read_of checked.now) db) before now result.drives.items result.text }
     ensures quiet { NoOtherFailed D.Drive (failed_drive result.text) result.drives.items }
 {
     let mut drives = drives;
@@ -119,7 +123,7 @@ pub(crate) fn explained<D: Drive>(
         method,
     );
     Made {
-        text: plans_text(alloc, plans),
+        text: plans_text(alloc, plans, machine),
         drives,
     }
 }

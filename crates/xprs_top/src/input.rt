@@ -8,8 +8,8 @@ ghost use Rattle.table_store.specs.Databases.{AreShort, IsTableOf, MayStore};
 ghost use Rattle.rows.specs.RowBytes.{IsRowOf};
 ghost use Rattle.xprs_top.specs.Inputs.{Told, checked_of, read_of};
 ghost use Rattle.xprs_top.specs.Readings.{IsCatalog, IsChecked, IsScript, Just, fetch_of, table_of, tables_of};
+ghost use Rattle.xprs_top.specs.Requests.{request_of};
 ghost use Rattle.xprs_top.specs.Tasks.{HasIndexColumn, MayServe};
-ghost use Rattle.xprs_top.specs.Words.{request_of};
 
 use crate::Status;
 use crate::refusal::{Naming, status_naming, table_refusal};

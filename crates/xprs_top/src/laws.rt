@@ -2,8 +2,8 @@
 ghost use Rattle.std.specs.Prelude.{◌≡◌, ℕ, List, Result, Ok};
 ghost use Rattle.xprs_top.specs.declared.status.Status.{Status};
 ghost use Rattle.xprs_top.specs.Readings.{Files, IsJob, Job};
+ghost use Rattle.xprs_top.specs.Requests.{Request};
 ghost use Rattle.xprs_top.specs.Texts.{IsText};
-ghost use Rattle.xprs_top.specs.Words.{Request};
 
 /// The words and the files mean one thing: a request has one job or one fault over some files, and
 /// a job that files give has one text, whether it is a printed script, answers or plans.

@@ -23,4 +23,4 @@ mod words;
 pub use call::answer_alone;
 pub use fault::pour_fault;
 pub use laws::one_text;
-pub use status::{Outcome, Refused, Status};
+pub use status::{Outcome, Refused, Status, Unbuilt};

@@ -35,12 +35,25 @@ pub enum Refused {
     },
 }
 
+/// What isn't built yet.
+#[derive(Clone, Copy, Debug, PartialEq, Eq)]
+pub enum Unbuilt {
+    /// `run`, the answers of a script by several backends.
+    Run,
+    /// `gen`, the answers of an input that is made.
+    Generation,
+    /// `alone --trace`, the answers with the events of the run.
+    Trace,
+    /// A script with a fold, or one that keeps an answer.
+    Folds,
+}
+
 /// How a run ended.
 #[derive(Debug, Drop)]
 pub enum Status {
     /// The whole text was written.
     Done,
-    /// The words are no form of the program's.
+    /// The words are no form of this call's.
     Usage,
     /// The input has a fault.
     Refused(Refused),
@@ -60,8 +73,8 @@ pub enum Status {
         needs: u64,
         capacity: u32,
     },
-    /// The script has a fold or keeps an answer, which isn't built yet.
-    NotBuilt,
+    /// The words or the script ask for what isn't built yet.
+    NotBuilt(Unbuilt),
 }
 
 impl Status {
@@ -79,7 +92,7 @@ impl Status {
             Status::SinkFault => 6,
             Status::NoMemory => 7,
             Status::DriveFull { .. } => 8,
-            Status::NotBuilt => 9,
+            Status::NotBuilt(_) => 9,
         }
     }
 }

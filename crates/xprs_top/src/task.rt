@@ -8,17 +8,18 @@ ghost use Rattle.postquel.specs.Program.{program_of};
 ghost use Rattle.table_store.specs.Databases.{MayStore};
 ghost use Rattle.xprs_top.specs.Inputs.{Finds, Told, job_of, read_of};
 ghost use Rattle.xprs_top.specs.Readings.{IsJob, Just, bind, is_unbuilt, over_tables, tables_of, write};
+ghost use Rattle.xprs_top.specs.Requests.{HasMachine, drives_for, request_of};
 ghost use Rattle.xprs_top.specs.Runs.{IsCheck};
-ghost use Rattle.xprs_top.specs.Tasks.{HasIndexColumn, IsPrint, IsReady, MayServe};
-ghost use Rattle.xprs_top.specs.Words.{request_of};
+ghost use Rattle.xprs_top.specs.Tasks.{HasIndexColumn, IsPrint, IsReady, MayServe, task_drives};
 
-use crate::Status;
-use crate::goal::Goal;
+use crate::goal::{Aim, Goal};
 use crate::input::{Checked, read_checked, read_tables};
-use crate::words::{Operands, Verb};
+use crate::words::Operands;
+use crate::{Status, Unbuilt};
 use name_check::{has_fold, has_into};
 use postquel::{Script, print};
 use rel_meaning::Database;
+use rows::Machine;
 use std::alloc::Global;
 use xp_outside::Shelf;
 
@@ -28,6 +29,7 @@ pub(crate) enum Task {
     Print(Vec<u8>),
     Over {
         goal: Goal,
+        machine: Machine,
         checked: Checked,
         db: Database,
     },
@@ -44,21 +46,29 @@ fn has_unbuilt(script: &Script) -> bool
 fn print_task(alloc: Global, script: &Script) -> Result<Task, Status>
     ensures value { Finds job_of result (Just (Ok (write (script_text (program_of script.now))))) }
     ensures print { IfOk result IsPrint }
+    ensures drives { IfOk result (λ task. task_drives task ≡ 0) }
 {
     Ok(Task::Print(print(alloc, script)?))
 }
 
 // To make something of a checked script and its tables.
-fn built_task(goal: Goal, checked: Checked, db: Database) -> Result<Task, Status>
+fn built_task(goal: Goal, machine: Machine, checked: Checked, db: Database) -> Result<Task, Status>
+    requires drives { HasMachine (Aim.Make goal machine) }
     requires serve { MayServe checked.catalog (program_of checked.read.script).sentences checked.read.queries }
     requires stored { MayStore checked.catalog db }
-    ensures value { Finds job_of result (Just (over_tables goal (read_of checked) db)) }
+    ensures value { Finds job_of result (Just (over_tables goal machine (read_of checked) db)) }
     ensures ready { IfOk result IsReady }
+    ensures drives { IfOk result (λ task. task_drives task ≡ machine.drives) }
 {
     if has_unbuilt(&checked.read.script) {
-        return Err(Status::NotBuilt);
+        return Err(Status::NotBuilt(Unbuilt::Folds));
     }
-    Ok(Task::Over { goal, checked, db })
+    Ok(Task::Over {
+        goal,
+        machine,
+        checked,
+        db,
+    })
 }
 
 // The same, for which the tables are read.
@@ -66,19 +76,22 @@ fn tables_task<S: Shelf>(
     alloc: Global,
     shelf: &mut S,
     goal: Goal,
+    machine: Machine,
     checked: Checked,
 ) -> Result<Task, Status>
+    requires drives { HasMachine (Aim.Make goal machine) }
     requires limits { HasLimits checked.catalog }
     requires indexes { All HasIndexColumn checked.catalog }
     requires serve { MayServe checked.catalog (program_of checked.read.script).sentences checked.read.queries }
     ensures files { S.files shelf.new ≡ S.files shelf.old }
     ensures count { S.faults shelf.old ≤ S.faults shelf.new }
     ensures quiet { result ≢ Err status.ShelfFault → Stands (S.faults shelf.old) (S.faults shelf.new) }
-    ensures told { Told (S.files shelf.old) (S.faults shelf.old) (S.faults shelf.new) job_of result (λ files. Just (bind (tables_of files checked.catalog) (over_tables goal (read_of checked)))) }
+    ensures told { Told (S.files shelf.old) (S.faults shelf.old) (S.faults shelf.new) job_of result (λ files. Just (bind (tables_of files checked.catalog) (over_tables goal machine (read_of checked)))) }
     ensures ready { IfOk result IsReady }
+    ensures drives { IfOk result (λ task. task_drives task ≡ machine.drives) }
 {
     let db = read_tables(alloc, shelf, &checked.catalog)?;
-    built_task(goal, checked, db)
+    built_task(goal, machine, checked, db)
 }
 
 /// The task that the words ask for.
@@ -87,17 +100,18 @@ pub(crate) fn read_task<S: Shelf>(
     shelf: &mut S,
     operands: &Operands<'_>,
 ) -> Result<Task, Status>
+    requires { HasMachine operands.now.aim }
     ensures files { S.files shelf.new ≡ S.files shelf.old }
     ensures count { S.faults shelf.old ≤ S.faults shelf.new }
     ensures quiet { result ≢ Err status.ShelfFault → Stands (S.faults shelf.old) (S.faults shelf.new) }
     ensures told { Told (S.files shelf.old) (S.faults shelf.old) (S.faults shelf.new) job_of result (λ files. IsJob files (request_of operands.now)) }
     ensures ready { IfOk result IsReady }
-    ensures print { IsCheck operands.now.verb → IfOk result IsPrint }
+    ensures print { IsCheck operands.now.aim → IfOk result IsPrint }
+    ensures drives { IfOk result (λ task. task_drives task ≡ drives_for operands.now.aim) }
 {
     let checked = read_checked(alloc, shelf, operands)?;
-    match operands.verb {
-        Verb::Alone => tables_task(alloc, shelf, Goal::Answers, checked),
-        Verb::Check => print_task(alloc, &checked.read.script),
-        Verb::Explain(method) => tables_task(alloc, shelf, Goal::Plans(method), checked),
+    match operands.aim {
+        Aim::Print => print_task(alloc, &checked.read.script),
+        Aim::Make { goal, machine } => tables_task(alloc, shelf, goal, machine, checked),
     }
 }

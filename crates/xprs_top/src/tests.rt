@@ -79,6 +79,18 @@ const PLANS: &str =
  @ retrieve (n = count(EMP.name)) \\g -> 9 xprs: folds and into are not built yet|
  @ retrieve (EMP.name)| -> 2 xprs: q:2:1: Unexpected|";
 
+// Each line is the words of a run, and what is answered.
+const WORDS: &str = " -> 1 xprs: usage|
+alone cat -> 1 xprs: usage|
+check cat q --trace -> 1 xprs: usage|
+explain cat q --join sort -> 1 xprs: usage|
+run cat q -> 1 xprs: usage|
+gen 1 2 -> 9 xprs: gen is not built yet|
+alone cat nothing --trace -> 9 xprs: --trace is not built yet|
+alone nothing q -> 2 xprs: nothing: missing|
+alone cat q --join merge --backends 64 --frames=1 --batch 3 -> 0 name|Ann|Cid|
+alone --drives 16 cat q -> 0 name|Ann|Cid|";
+
 // The calls that fail of the shelf, the output, the rack and drive 0, how many bytes the output takes at once, and how
 // many pages a drive has.
 #[derive(Clone, Copy)]
@@ -257,18 +269,10 @@ fn each_script_is_answered_or_refused_at_its_place(rt: HostRuntime) -> Result<()
 #[test]
 fn words_and_devices_have_their_statuses(rt: HostRuntime) -> Result<(), Fail> {
     let alloc = rt.alloc();
-    let words: [(&[&str], &str); 8] = [
-        (&[], "1 xprs: usage|"),
-        (&["alone", "cat"], "1 xprs: usage|"),
-        (&["check", "cat", "q", "--trace"], "1 xprs: usage|"),
-        (&["alone", "cat", "q", "--join", "hash"], "1 xprs: usage|"),
-        (&["explain", "cat", "q", "--join"], "1 xprs: usage|"),
-        (&["explain", "cat", "q", "--join", "sort"], "1 xprs: usage|"),
-        (&["alone", "-cat", "q"], "1 xprs: usage|"),
-        (&["alone", "nothing", "q"], "2 xprs: nothing: missing|"),
-    ];
-    for (words, wanted) in words {
-        let left = answer(alloc, words, files(alloc, &[])?, SOUND)?;
+    for line in WORDS.lines() {
+        let (words, wanted) = line.split_once(" -> ").unwrap_or(("", ""));
+        let words = words.split_whitespace().collect::<Vec<&str>>(alloc)?;
+        let left = answer(alloc, words.as_slice(), files(alloc, &[])?, SOUND)?;
         assert_eq!(rt; left.as_slice(), lines(alloc, wanted)?.as_slice());
     }
     let devices: [(Devices<'_>, &str); 12] = [
@@ -370,10 +374,15 @@ fn drives_are_handed_back_with_their_counts_and_their_pages(rt: HostRuntime) -> 
     ];
     for (devices, wanted, faults) in cases {
         let files = files(alloc, &[("cat", TWO)])?;
-        let ended = run(alloc, &["alone", "cat", "q"], files, devices)?;
+        let ended = run(
+            alloc,
+            &["alone", "cat", "q", "--drives", "3"],
+            files,
+            devices,
+        )?;
         let left = left(alloc, ended.status, &ended.out, &ended.err)?;
         assert_eq!(rt; left.as_slice(), lines(alloc, wanted)?.as_slice());
-        assert_eq!(rt; ended.drives.len(), 4);
+        assert_eq!(rt; ended.drives.len(), 3);
         assert_eq!(rt; ended.drives[0].faults(), faults);
     }
     let none = "relation EMP from \"none.csv\" (name = text, dept = text, sal = int4)|";

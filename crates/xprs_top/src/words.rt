@@ -1,112 +1,95 @@
-ghost use Rattle.std.specs.Prelude.{◌≡◌, map, string_bytes};
-ghost use Rattle.std.specs.Option.{option_map};
-ghost use Rattle.xprs_top.specs.Words.{form_of, is_operand, method_of, option_form_of, request_of, verb_of, verb_with, with_operands};
+//! What the words of a command ask of a run on one thread.
+ghost use Rattle.std.specs.Prelude.{◌≡◌, IfOk, map, string_bytes};
+ghost use Rattle.command_words.specs.Forms as words;
+ghost use Rattle.xprs_top.specs.Requests as spec;
+ghost use Rattle.xprs_top.specs.Requests.{HasMachine, IsAsked, IsServed, asked_by, request_of, served, to_make};
 
+use crate::goal::{Aim, Goal};
+use crate::{Status, Unbuilt};
+use command_words::{FileNames, Job, JoinMethod, Plans, Request, read_words};
 use plan_tree::Method;
+use rows::Machine;
+use std::alloc::Global;
 
-/// What a run is asked for: the answers of a script, the script in its printed form, or the plans of its statements.
-#[derive(Clone, Copy)]
-pub(crate) enum Verb {
-    Alone,
-    Check,
-    Explain(Method),
-}
+/// How many positions are claimed at once in a run that is explained.
+const PLANS_BATCH: u32 = 8;
 
-/// What is asked for, and the names of the two files that a run reads first.
+/// What is made of a script, and the names of the two files that a run reads first.
 #[derive(Clone, Copy)]
 pub(crate) struct Operands<'a> {
-    pub verb: Verb,
+    pub aim: Aim,
     pub catalog: &'a [u8],
     pub script: &'a [u8],
 }
 
-fn may_be_operand(word: &[u8]) -> bool
-    ensures { result ≡ is_operand word.now }
+fn method_of(join: JoinMethod) -> Method
+    ensures { result ≡ spec.method_of join }
 {
-    word.len() <= 1 || word[0] != b'-'
-}
-
-fn verb_named(word: &[u8]) -> Option<Verb>
-    ensures { result ≡ verb_of word.now }
-{
-    if word == b"alone".as_slice() {
-        Some(Verb::Alone)
-    } else if word == b"check".as_slice() {
-        Some(Verb::Check)
-    } else if word == b"explain".as_slice() {
-        Some(Verb::Explain(Method::Hash))
-    } else {
-        None
+    match join {
+        JoinMethod::Hash => Method::Hash,
+        JoinMethod::Merge => Method::Merge,
     }
 }
 
-fn method_named(word: &[u8]) -> Option<Method>
-    ensures { result ≡ method_of word.now }
+fn operands_for<'a>(aim: Aim, files: FileNames<'a>) -> Operands<'a>
+    ensures { to_make aim (words.files_of files.entry) ≡ Ok (request_of result) }
 {
-    if word == b"hash".as_slice() {
-        Some(Method::Hash)
-    } else if word == b"merge".as_slice() {
-        Some(Method::Merge)
-    } else {
-        None
+    Operands {
+        aim,
+        catalog: files.catalog.as_bytes(),
+        script: files.script.as_bytes(),
     }
 }
 
-// What the first word asks for with an option and its value.
-fn verb_with(word: &[u8], option: &[u8], value: &[u8]) -> Option<Verb>
-    ensures { result ≡ verb_with word.now option.now value.now }
+// To answer a script, as long as no trace is asked for.
+fn answers<'a>(job: Job<'a>) -> Result<Operands<'a>, Status>
+    ensures { IsServed (served (words.alone (words.job_of job.entry))) result }
 {
-    if word == b"explain".as_slice() && option == b"--join".as_slice() {
-        let method = method_named(value)?;
-        Some(Verb::Explain(method))
-    } else {
-        None
+    if job.is_traced {
+        return Err(Status::NotBuilt(Unbuilt::Trace));
+    }
+    let machine = Machine {
+        backends: job.machine.backends,
+        drives: job.machine.drives,
+        batch: job.machine.batch,
+    };
+    let goal = Goal::Answers;
+    Ok(operands_for(Aim::Make { goal, machine }, job.files))
+}
+
+// To show the plans of a script.
+fn plans<'a>(plans: Plans<'a>) -> Operands<'a>
+    ensures { served (words.explain (words.plans_of plans.entry)) ≡ Ok (request_of result) }
+{
+    let machine = Machine {
+        backends: plans.backends,
+        drives: plans.drives,
+        batch: PLANS_BATCH,
+    };
+    let goal = Goal::Plans(method_of(plans.join));
+    operands_for(Aim::Make { goal, machine }, plans.files)
+}
+
+fn operands_of<'a>(request: Request<'a>) -> Result<Operands<'a>, Status>
+    ensures { IsServed (served (words.request_of request.entry)) result }
+{
+    match request {
+        Request::Run(_) => Err(Status::Usage),
+        Request::Alone(job) => answers(job),
+        Request::Explain(wanted) => Ok(plans(wanted)),
+        Request::Check(files) => Ok(operands_for(Aim::Print, files)),
+        Request::Gen(_) => Err(Status::NotBuilt(Unbuilt::Generation)),
     }
 }
 
-// What is asked for of two operands.
-fn with_operands<'a>(
-    verb: Option<Verb>,
-    catalog: &'a [u8],
-    script: &'a [u8],
-) -> Option<Operands<'a>>
-    ensures { option_map request_of result ≡ with_operands catalog.now script.now verb }
+/// What the words ask for. Where they ask for nothing that this call does, the status of such words: `Usage` of words
+/// that are no form, and of `run`, which is for another call; `NotBuilt` of `gen` and of a trace.
+pub(crate) fn operands_in<'a>(alloc: Global, words: &'a [String]) -> Result<Operands<'a>, Status>
+    ensures asked { IsAsked (asked_by (map string_bytes words.now)) result }
+    ensures machine { IfOk result (λ operands. HasMachine operands.aim) }
 {
-    let verb = verb?;
-    if may_be_operand(catalog) && may_be_operand(script) {
-        Some(Operands {
-            verb,
-            catalog,
-            script,
-        })
-    } else {
-        None
-    }
-}
-
-// What is asked for of five words, the last two of which are an option and its value.
-fn read_option_words(words: &[String]) -> Option<Operands<'_>>
-    ensures { option_map request_of result ≡ option_form_of (map string_bytes words.now) }
-{
-    match words {
-        [word, catalog, script, option, value] => {
-            let verb = verb_with(word.as_bytes(), option.as_bytes(), value.as_bytes());
-            with_operands(verb, catalog.as_bytes(), script.as_bytes())
-        }
-        _ => None,
-    }
-}
-
-/// The operands of `alone CATALOGUE SCRIPT`, `check CATALOGUE SCRIPT` or `explain CATALOGUE SCRIPT [--join hash|merge]`.
-/// It is `None` where the words are anything else.
-pub(crate) fn read_words(words: &[String]) -> Option<Operands<'_>>
-    ensures { option_map request_of result ≡ form_of (map string_bytes words.now) }
-{
-    match words {
-        [word, catalog, script] => {
-            let verb = verb_named(word.as_bytes());
-            with_operands(verb, catalog.as_bytes(), script.as_bytes())
-        }
-        _ => read_option_words(words),
+    match read_words(alloc, words)? {
+        Some(request) => operands_of(request),
+        None => Err(Status::Usage),
     }
 }

@@ -11,13 +11,13 @@ use Rattle.std.proofs.Common.{ap, ◌∙◌, None}
 pub returns-in-Err-clause-made : goal.returns-in-Err-clause-made
 returns-in-Err-clause-made g c = λ before now.
     rw c.from.ensures
-    (lay_made g.D.Drive (read_of c.args.checked.now) c.args.db before now Answers c.args.drives.now c.lay_database.new.drives c.in-Err.error c.requires.count c.requires.fresh c.in-Err.ensures.kept c.in-Err.ensures.err)
+    (lay_made g.D.Drive (read_of c.args.checked.now) c.args.db c.args.machine.now before now Answers c.args.drives.now c.lay_database.new.drives c.in-Err.error c.requires.count c.requires.fresh c.in-Err.ensures.kept c.in-Err.ensures.err)
 
 pub returns-in-Err-read_database-clause-made : goal.returns-in-Err-read_database-clause-made
 returns-in-Err-read_database-clause-made g c = λ before now.
     let may = c.requires.answerable.stored in
     rw c.from-in-Err-read_database.ensures
-    (read_made g.D.Drive (read_of c.args.checked.now) c.args.db before now c.args.drives.now c.lay_database.new.drives c.read_database.new.drives c.in-Ok.laid c.requires.count c.requires.fresh c.in-Ok.ensures.kept
+    (read_made g.D.Drive (read_of c.args.checked.now) c.args.db c.args.machine.now before now c.args.drives.now c.lay_database.new.drives c.read_database.new.drives c.in-Ok.laid c.requires.count c.requires.fresh c.in-Ok.ensures.kept
     c.in-Ok.ensures.laid c.in-Err-read_database.ensures.read may c.block_laws.ensures.accepted c.block_laws.ensures.again c.in-Err-read_database.error c.in-Err-read_database.ensures.err)
 
 pub answers-requires : goal.answers-requires
@@ -28,7 +28,7 @@ answers-requires g c =
 pub returns-clause-made : goal.returns-clause-made
 returns-clause-made g c = λ before now.
     let may = c.requires.answerable.stored in
-    text_made g.D.Drive (read_of c.args.checked.now) c.args.db before now c.args.drives.now c.lay_database.new.drives c.read_database.new.drives c.in-Ok.laid c.requires.count c.requires.fresh c.in-Ok.ensures.kept
+    text_made g.D.Drive (read_of c.args.checked.now) c.args.db c.args.machine.now before now c.args.drives.now c.lay_database.new.drives c.read_database.new.drives c.in-Ok.laid c.requires.count c.requires.fresh c.in-Ok.ensures.kept
     c.in-Ok.ensures.laid c.in-Ok-read_database.ensures.read c.in-Ok-read_database.db c.in_ok-answers.field-0
     (λ tell. c.in-Ok-read_database.ensures.again c.args.db (columns_agree c.args.checked.now.catalog c.args.db may.count may.each) tell)
     (rw (← c.items.ensures) c.in_ok-answers.ensures)

@@ -8,4 +8,4 @@ pub returns-clause-ready : goal.returns-clause-ready
 returns-clause-ready c =
     let sentences = (program_of c.args.checked.read.script).sentences in
     let none = or_right (list_any has_fold sentences) (list_any is_kept sentences) (rw (← c.has_unbuilt.ensures) c.if-has_unbuilt.false) in
-    record { stored = c.requires.stored; resolved = λ found are. c.requires.serve.asked found are none; planned = c.requires.serve.planned none }
+    (c.requires.drives, record { stored = c.requires.stored; resolved = λ found are. c.requires.serve.asked found are none; planned = c.requires.serve.planned none })
