@@ -1,3 +1,4 @@
 pub mod Files
 pub mod Growth
 pub mod Items
+pub mod Scans

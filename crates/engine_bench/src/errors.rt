@@ -6,7 +6,7 @@ use thiserror::Error;
 /// Why there is no number to be printed.
 #[derive(Clone, Copy, Debug, PartialEq, Eq, Error)]
 pub enum BenchErr {
-    #[error("board [times], named|mutex THREADS TURNS, cached THREADS FETCHES, entries COUNT [SIZE], hashes ROWS [times], folds ROWS, rows ROWS, heap ROWS or index ROWS")]
+    #[error("board [times], control [times], history, named|mutex THREADS TURNS, cached THREADS FETCHES, entries COUNT [SIZE], hashes ROWS [times], folds ROWS, rows ROWS, heap ROWS or index ROWS")]
     Unknown,
     #[error("no memory")]
     NoMemory,

@@ -1,6 +1,8 @@
 //! Parts of the engine, for timing. What it prints is the same whatever the clock says, but where `times` is said.
 //!
 //! `engine_bench board [times]`: a scan of a million positions runs through eight roles while its degree changes 64 times.
+//! `engine_bench control [times]`: a control runs a million positions through four backends, with sixteen decisions.
+//! `engine_bench history`: a small run, and its history.
 //! `engine_bench named|mutex THREADS TURNS`: so many threads take so many turns each, under the named lock or std's mutex.
 //! `engine_bench cached THREADS FETCHES`: so many threads fetch so many pages each through a shared pool that keeps all.
 //! `engine_bench entries COUNT [SIZE]`: so many entries of an index with 1,000,000 of them, or with SIZE, are fetched in a
@@ -14,6 +16,7 @@
 #![tactic(auto)]
 
 mod board;
+mod control;
 mod disk;
 mod errors;
 mod fetches;
@@ -23,9 +26,11 @@ mod heap;
 mod index;
 mod lock;
 mod look_ups;
+mod page_scans;
 mod tally;
 
 use board::run_boards;
+use control::{print_history, run_control};
 use errors::BenchErr;
 use fetches::fetch_cached;
 use folds::{fold_rows, make_rows};
@@ -91,6 +96,8 @@ fn main(rt: HostRuntime) -> io::Result<()> {
     let Some(kind) = words.get(1) else {
         run_boards(&rt, false)?;
         run_hashes(&rt, 1_000, false)?;
+        run_control(&rt, false)?;
+        print_history(&rt)?;
         return match run_all(&rt, rt.alloc()) {
             Ok((turns, found)) => println!(rt; "{turns} turns, {found} entries"),
             Err(error) => println!(rt; "{error}"),
@@ -98,6 +105,12 @@ fn main(rt: HostRuntime) -> io::Result<()> {
     };
     if kind.as_str() == "board" {
         return run_boards(&rt, words.get(2).is_some());
+    }
+    if kind.as_str() == "control" {
+        return run_control(&rt, words.get(2).is_some());
+    }
+    if kind.as_str() == "history" {
+        return print_history(&rt);
     }
     if kind.as_str() == "hashes" {
         let rows = number_in(words.as_slice(), 2).unwrap_or(0);
