@@ -14,3 +14,4 @@ pub mod Kept
 pub mod Folded
 pub mod Parts
 pub mod Fitting
+pub mod SampleRuns

@@ -6,3 +6,4 @@ pub mod Probes
 pub mod Ends
 pub mod Positions
 pub mod KeptValues
+pub mod SamplePieces

@@ -27,7 +27,10 @@ use std::alloc::{AllocError, Global};
 use std::sync::Arc;
 
 // The columns of a relation in a layout.
-fn layout_columns(alloc: Global, columns: &ColumnList) -> Result<LayoutColumnList, AllocError>
+pub(crate) fn layout_columns(
+    alloc: Global,
+    columns: &ColumnList,
+) -> Result<LayoutColumnList, AllocError>
     ensures { IfOk result (λ made. made ≡ map layout_column columns.now) }
 {
     let mut made = Vec::with_capacity(alloc, columns.len())?;

@@ -14,7 +14,13 @@ mod position;
 mod probe;
 mod projecting;
 mod row_testing;
+#[cfg(test)]
+mod sample_pages;
+#[cfg(test)]
+mod samples;
 mod testing;
+#[cfg(test)]
+mod tests;
 
 pub use end::end_value;
 pub use laws::{image_laws, kept_laws};
