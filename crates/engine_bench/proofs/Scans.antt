@@ -1,5 +1,5 @@
 -- Scans of pages are well formed fragments, and end with a build without key columns.
-use Rattle.std.proofs.Common.{◌≡◌, Bool, false, ℕ, zero, suc, ◌<◌, ◌≤◌, List, [], ◌∷◌, length, map, take, Option, Some, refl, sym, subst, arith}
+use Rattle.std.proofs.Common.{◌≡◌, false, ℕ, zero, suc, ◌≤◌, List, [], ◌∷◌, length, map, take, Option, Some, refl, sym, subst, arith}
 use Rattle.std.specs.Prelude.{slice_get}
 use Rattle.std.specs.Ordering.{nat_cmp, is_gt}
 use Rattle.std.proofs.lemmas.List.{length-map}
@@ -9,7 +9,6 @@ use Rattle.plan_tree.specs.Pieces.{Piece, piece_of, pieces_of}
 use Rattle.plan_tree.specs.WellFormed.{AreWellFormed, IsPiece}
 use Rattle.plan_tree.specs.declared.fragment.End.TheVariants as end
 use Rattle.plan_tree.specs.declared.fragment.Fragment.{Fragment}
-use Rattle.master.specs.SampleRuns.{sample_pages}
 use Rattle.master.proofs.SampleRuns.{pages_fit}
 use Rattle.engine_bench.specs.Scans.{IsScan}
 
