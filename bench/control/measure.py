@@ -2,7 +2,7 @@
 """Times the calls of a control over a million positions, and tells how much memory a run takes.
 
 Build the program first: `rt run` in crates/engine_bench proves it and leaves it in out/. Each time is the least average of
-five runs; each contains one reading of the clock. The memory is the greatest of a run, less that of a run over ten
+five runs; each contains one reading of the clock. The memory is the greatest of a run, less that of a run over nine
 positions.
 """
 
