@@ -3,7 +3,7 @@ use Rattle.std.proofs.Common.{◌≡◌, ℕ, List, [], Option, Some, None, Resu
 use Rattle.std.specs.Global.{Vec}
 use Rattle.xp_outside.specs.declared.drive.Drive.{Ghosts}
 use Rattle.xprs_top.specs.declared.status.Status.{Status}
-use Rattle.xprs_top.specs.declared.status.Status.TheVariants.{Done, Usage, Refused, ShelfFault, DriveFault, Bad, SinkFault, NoMemory, DriveFull, NotBuilt}
+use Rattle.xprs_top.specs.declared.status.Status.TheVariants.{Done, Usage, Refused, ShelfFault, DriveFault, Bad, SinkFault, NoMemory, DriveFull, NotBuilt, TooLarge}
 use Rattle.xprs_top.specs.Devices.{Makes}
 use Rattle.xprs_top.specs.Inputs.{Shows}
 use Rattle.xprs_top.specs.Readings.{IsJob, Job}
@@ -30,6 +30,7 @@ turned_away (Err wanted) (DriveFault d) asked = absurd asked
 turned_away (Err wanted) (Bad bad) asked = absurd asked
 turned_away (Err wanted) SinkFault asked = absurd asked
 turned_away (Err wanted) (DriveFull d needs capacity) asked = absurd asked
+turned_away (Err wanted) (TooLarge number) asked = absurd asked
 
 module _ {D : Type 0} (g : Ghosts D) where
   -- a run that ended before drives were mounted
@@ -45,6 +46,7 @@ module _ {D : Type 0} (g : Ghosts D) where
   caused_early o request drives NoMemory shows none same = same
   caused_early o request drives (DriveFull d needs capacity) shows none same = absurd shows
   caused_early o request drives (NotBuilt what) shows none same = (inr shows, none, same)
+  caused_early o request drives (TooLarge number) shows none same = absurd shows
 
   -- words that ask for nothing
   pub caused_words : (o : Outside) (form : Form) (drives : List D) (status : Status) →
@@ -59,6 +61,7 @@ module _ {D : Type 0} (g : Ghosts D) where
   caused_words o form drives (Bad bad) asked none same = absurd asked
   caused_words o form drives SinkFault asked none same = absurd asked
   caused_words o form drives (DriveFull d needs capacity) asked none same = absurd asked
+  caused_words o form drives (TooLarge number) asked none same = absurd asked
 
   module _ (o : Outside) (form : Form) (job : Job) (drives : List D) (asks : Asks o.files form job) where
     caused_err : (e : Status) → Makes g job o.rack_before o.rack_now drives (Err e) → o.new ≡ o.old → Caused g form o drives e
@@ -73,6 +76,7 @@ module _ {D : Type 0} (g : Ghosts D) where
     caused_err NoMemory made same = same
     caused_err (DriveFull d needs capacity) made same = (job, asks, made, same)
     caused_err (NotBuilt what) made same = absurd made
+    caused_err (TooLarge number) made same = (job, asks, made.0, made.1, same)
 
     caused_ok : (text : Vec ℕ) (status : Status) → Makes g job o.rack_before o.rack_now drives (Ok text) → Poured o.old o.new o.out_before o.out_now (Ok text) status → Caused g form o drives status
     caused_ok text Done made wrote = (job, asks, made.0, λ all. (text.items, made.1 all, wrote))
@@ -85,6 +89,7 @@ module _ {D : Type 0} (g : Ghosts D) where
     caused_ok text NoMemory made wrote = absurd wrote
     caused_ok text (DriveFull d needs capacity) made wrote = absurd wrote
     caused_ok text (NotBuilt what) made wrote = absurd wrote
+    caused_ok text (TooLarge number) made wrote = absurd wrote
 
     pub caused_made : (text : Result (Vec ℕ) Status) (status : Status) → Makes g job o.rack_before o.rack_now drives text → Poured o.old o.new o.out_before o.out_now text status → Caused g form o drives status
     caused_made (Ok text) status made wrote = caused_ok text status made wrote
@@ -102,6 +107,7 @@ module _ {D : Type 0} (g : Ghosts D) where
   late_err job before now drives SinkFault made early = early
   late_err job before now drives NoMemory made early = early
   late_err job before now drives (DriveFull d needs capacity) made early = early
+  late_err job before now drives (TooLarge number) made early = early
 
   late_ok : (old new : Option (List ℕ)) (before now : ℕ) (text : Vec ℕ) (status : Status) → Poured old new before now (Ok text) status → IsEarly status → ⊥
   late_ok old new before now text Usage wrote early = wrote
@@ -114,6 +120,7 @@ module _ {D : Type 0} (g : Ghosts D) where
   late_ok old new before now text SinkFault wrote early = early
   late_ok old new before now text NoMemory wrote early = early
   late_ok old new before now text (DriveFull d needs capacity) wrote early = early
+  late_ok old new before now text (TooLarge number) wrote early = early
 
   pub not_early : (job : Job) (rb rn : ℕ) (drives : List D) (old new : Option (List ℕ)) (ob on : ℕ) (text : Result (Vec ℕ) Status) (status : Status) → Makes g job rb rn drives text → Poured old new ob on text status → IsEarly status → ⊥
   not_early job rb rn drives old new ob on (Ok text) status made wrote early = late_ok old new ob on text status wrote early

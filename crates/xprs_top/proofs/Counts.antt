@@ -9,15 +9,17 @@ use Rattle.heap_page.proofs.Found.{get_below, there}
 use Rattle.xp_outside.specs.declared.drive.Drive.{Ghosts}
 use Rattle.xp_outside.specs.Drives.{IsFresh}
 use Rattle.plan_tree.specs.declared.tree.Plan.{Plan}
+use Rattle.rel_meaning.specs.declared.query.Table.{Table}
 use Rattle.rows.specs.declared.plain.Machine.{Machine}
 use Rattle.std.specs.Global.{Vec}
 use Rattle.table_store.specs.Databases.{AllFresh}
 use Rattle.table_store.proofs.Filed.{all_at}
 use Rattle.xprs_top.specs.declared.status.Status.{Status}
-use Rattle.xprs_top.specs.declared.status.Status.TheVariants.{Done, Usage, Refused, ShelfFault, DriveFault, Bad, SinkFault, DriveFull, NotBuilt, NoMemory}
+use Rattle.xprs_top.specs.declared.status.Status.TheVariants.{Done, Usage, Refused, ShelfFault, DriveFault, Bad, SinkFault, DriveFull, NotBuilt, NoMemory, TooLarge}
 use Rattle.xprs_top.specs.Counts.{NoOtherFailed, failed_drive, named_drive}
 use Rattle.xprs_top.specs.Statuses.{of_fetch, of_store}
-use Rattle.xprs_top.specs.Texts.{Explains}
+use Rattle.xprs_top.specs.Readings.{Checked}
+use Rattle.xprs_top.specs.Texts.{Answered, Explains}
 
 -- the drive that a status names is the one that the error names
 pub named_store : (e : StoreErr) → named_drive (of_store e) ≡ store_fault {T = ℕ} (Err e)
@@ -29,6 +31,21 @@ pub named_fetch : (e : FetchErr) → named_drive (of_fetch e) ≡ fetch_fault {T
 named_fetch (fetch.DriveFault d) = refl
 named_fetch (fetch.BadPage bad) = refl
 named_fetch fetch.NoMemory = refl
+
+-- answers name no drive
+pub named_answers : (checked : Checked) (db : List Table) (text : Result (Vec ℕ) Status) → Answered checked db text → failed_drive text ≡ None
+named_answers checked db (Ok text) is = refl
+named_answers checked db (Err (TooLarge number)) is = refl
+named_answers checked db (Err NoMemory) is = refl
+named_answers checked db (Err Done) is = absurd is
+named_answers checked db (Err Usage) is = absurd is
+named_answers checked db (Err (Refused r)) is = absurd is
+named_answers checked db (Err ShelfFault) is = absurd is
+named_answers checked db (Err (DriveFault d)) is = absurd is
+named_answers checked db (Err (Bad bad)) is = absurd is
+named_answers checked db (Err SinkFault) is = absurd is
+named_answers checked db (Err (DriveFull d needs capacity)) is = absurd is
+named_answers checked db (Err (NotBuilt what)) is = absurd is
 
 -- a text of plans names the drive whose read has failed
 pub named_plans : (machine : Machine) (plans : Result (List Plan) FetchErr) (text : Result (Vec ℕ) Status) → Explains machine plans text → failed_drive text ≡ fetch_fault plans
@@ -43,6 +60,7 @@ named_plans machine (Ok ps) (Err (Bad bad)) shows = absurd shows
 named_plans machine (Ok ps) (Err SinkFault) shows = absurd shows
 named_plans machine (Ok ps) (Err (DriveFull d needs capacity)) shows = absurd shows
 named_plans machine (Ok ps) (Err (NotBuilt what)) shows = absurd shows
+named_plans machine (Ok ps) (Err (TooLarge number)) shows = absurd shows
 named_plans machine (Err e) text shows = ap failed_drive shows ∙ named_fetch e ∙ same e where
   same : (e : FetchErr) → fetch_fault {T = ℕ} (Err e) ≡ fetch_fault {T = List Plan} (Err e)
   same (fetch.DriveFault d) = refl

@@ -1,5 +1,5 @@
 -- What drives show.
-use Rattle.std.proofs.Common.{◌≡◌, ℕ, zero, suc, Bool, List, [], ◌∷◌, length, take, ◌++◌, Option, Some, None, Ok, Err, refl, sym, ap, subst, ◌∙◌, arith, inl, inr}
+use Rattle.std.proofs.Common.{◌≡◌, ℕ, zero, suc, Bool, List, [], ◌∷◌, length, take, ◌++◌, Option, Some, None, Result, Ok, Err, refl, sym, ap, subst, ◌∙◌, arith, inl, inr}
 use Rattle.std.specs.Prelude.{is_some, IsTrue, ◌⊎◌, ◌<◌, ◌≤◌, ◌^◌, slice_get}
 use Rattle.std.proofs.lemmas.Nat.{mod_below}
 use Rattle.std.specs.Global.{Vec}
@@ -26,11 +26,13 @@ use Rattle.table_store.specs.Readings.{AllTell}
 use Rattle.table_store.proofs.Laying.{kept_reading, kept_trans}
 use Rattle.table_store.proofs.Pages.{room_read}
 use Rattle.table_store.proofs.Untold.{file_is, rule_is, untold_page, within}
-use Rattle.xprs_top.specs.Answers.{answers_bytes}
 use Rattle.xprs_top.specs.Devices.{Fit, HasFailed, IsUntold, Makes, ReadsBad}
 use Rattle.xprs_top.specs.declared.goal.Goal.{Goal}
 use Rattle.xprs_top.specs.declared.goal.Goal.TheVariants.{Answers}
 use Rattle.xprs_top.specs.Readings.{Checked, over}
+use Rattle.xprs_top.specs.declared.status.Status.{Status}
+use Rattle.xprs_top.specs.declared.status.Status.TheVariants.{Done, Usage, Refused, ShelfFault, DriveFault, Bad, SinkFault, NoMemory, DriveFull, NotBuilt, TooLarge}
+use Rattle.xprs_top.specs.Texts.{Answered, IsAnswered, IsLarge}
 use Rattle.xprs_top.specs.Statuses.{of_fetch, of_store}
 
 -- what is known of the pages of items
@@ -125,9 +127,22 @@ module _ {D : Type 0} (g : Ghosts D) where
           (within accepted again g checked.catalog db olds mids laid may fresh out bad cause) (file_is accepted again g checked.catalog db olds mids laid may fresh out bad cause)
       read_made may accepted again fetch.NoMemory cause = tt
 
-      pub text_made : (found : List Table) (text : Vec ℕ) → (TellTables g laid db mids → found ≡ db) → text.items ≡ answers_bytes found checked.questions → Makes g (over Answers machine checked db) before now news (Ok text)
-      text_made found text again is =
-          ((is_fit, image_read laid.map out.tables mids news read (out.image fresh)), λ all. is ∙ ap (λ (tables : List Table). answers_bytes tables checked.questions) (again (tell_mids all)))
+      -- answers over the tables that were read, which are those that were laid where all drives tell
+      pub answers_made : (found : List Table) (text : Result (Vec ℕ) Status) → (TellTables g laid db mids → found ≡ db) → Answered checked found text → Makes g (over Answers machine checked db) before now news text
+      answers_made found (Ok text) again is =
+          ((is_fit, image_read laid.map out.tables mids news read (out.image fresh)), λ all. subst (λ (tables : List Table). IsAnswered checked tables text.items) (again (tell_mids all)) is)
+      answers_made found (Err (TooLarge number)) again is =
+          ((is_fit, image_read laid.map out.tables mids news read (out.image fresh)), λ all. subst (λ (tables : List Table). IsLarge checked tables number) (again (tell_mids all)) is)
+      answers_made found (Err NoMemory) again is = tt
+      answers_made found (Err Done) again is = absurd is
+      answers_made found (Err Usage) again is = absurd is
+      answers_made found (Err (Refused r)) again is = absurd is
+      answers_made found (Err ShelfFault) again is = absurd is
+      answers_made found (Err (DriveFault d)) again is = absurd is
+      answers_made found (Err (Bad bad)) again is = absurd is
+      answers_made found (Err SinkFault) again is = absurd is
+      answers_made found (Err (DriveFull d needs capacity)) again is = absurd is
+      answers_made found (Err (NotBuilt what)) again is = absurd is
 
 front : {X : Type 0} (xs rest : List X) → take (length xs) (xs ++ rest) ≡ xs
 front [] rest = refl

@@ -29,7 +29,7 @@ use Rattle.query_planner.specs.Stored.{AreOf, Stands}
 use Rattle.query_planner.specs.Plans.{AreBestPlans}
 use Rattle.query_planner.proofs.Stored.{are_of}
 use Rattle.xprs_top.specs.declared.status.Status.{Status}
-use Rattle.xprs_top.specs.declared.status.Status.TheVariants.{Done, Usage, Refused, ShelfFault, DriveFault, Bad, SinkFault, NoMemory, DriveFull, NotBuilt}
+use Rattle.xprs_top.specs.declared.status.Status.TheVariants.{Done, Usage, Refused, ShelfFault, DriveFault, Bad, SinkFault, NoMemory, DriveFull, NotBuilt, TooLarge}
 use Rattle.xprs_top.specs.declared.goal.Goal.TheVariants.{Plans}
 use Rattle.xprs_top.specs.Devices.{Fit, Makes}
 use Rattle.xprs_top.specs.Readings.{Checked, over}
@@ -117,4 +117,5 @@ module _ {D : Type 0} (g : Ghosts D) where
     made_plans (Ok ps) (Err SinkFault) told never cause shows = absurd shows
     made_plans (Ok ps) (Err (DriveFull d needs capacity)) told never cause shows = absurd shows
     made_plans (Ok ps) (Err (NotBuilt what)) told never cause shows = absurd shows
+    made_plans (Ok ps) (Err (TooLarge number)) told never cause shows = absurd shows
     made_plans (Err e) text told never cause shows = subst (Makes g (over (Plans m) machine checked db) before now news) (sym shows) (made_err e cause never)

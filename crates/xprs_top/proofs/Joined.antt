@@ -1,9 +1,8 @@
 -- Answers behind one another.
 use Rattle.std.proofs.Common.{◌≡◌, List, [], ◌∷◌, ◌++◌, map, flat_map, refl, ap, ℕ, Bool, true, false, ◌||◌, true≢false, sym, ◌∙◌, Ok, Err, Result, IfOk}
-use Rattle.rel_meaning.specs.declared.query.Query.{Query}
-use Rattle.rel_meaning.specs.declared.query.Table.{Table}
-use Rattle.rel_meaning.specs.Expression.{question_of}
+use Rattle.xprs_top.specs.declared.answering.Shown.{Shown}
 use Rattle.xprs_top.specs.Answers.{answer_of, answers_bytes, next_answer}
+use Rattle.xprs_top.specs.Shown.{answer_by}
 
 pub flat_map-map : {X Y : Type 0} (f : Y → List ℕ) (g : X → Y) (xs : List X) → flat_map (λ x. f (g x)) xs ≡ flat_map f (map g xs)
 flat_map-map f g [] = refl
@@ -13,10 +12,10 @@ pub or_right : (a b : Bool) → (a || b) ≡ false → b ≡ false
 or_right true b e = absurd (true≢false e)
 or_right false b e = e
 
-pub joined : (db : List Table) (queries rest : List Query) (first : Query) (text bytes : List ℕ) → queries ≡ first ∷ rest → text ≡ answer_of db (question_of first) → bytes ≡ text ++ flat_map (λ q. next_answer db (question_of q)) rest →
-    bytes ≡ answers_bytes db (map question_of queries)
-joined db queries rest first text bytes parts begins e =
-    e ∙ (ap (λ (xs : List ℕ). xs ++ flat_map (λ q. next_answer db (question_of q)) rest) begins ∙ (ap (λ (xs : List ℕ). answer_of db (question_of first) ++ xs) (flat_map-map (next_answer db) question_of rest) ∙ ap (λ qs. answers_bytes db (map question_of qs)) (sym parts)))
+pub joined : (answers rest : List Shown) (first : Shown) (text bytes : List ℕ) → answers ≡ first ∷ rest → text ≡ answer_of (answer_by first) → bytes ≡ text ++ flat_map (λ a. next_answer (answer_by a)) rest →
+    bytes ≡ answers_bytes (map answer_by answers)
+joined answers rest first text bytes parts begins e =
+    e ∙ (ap (λ (xs : List ℕ). xs ++ flat_map (λ a. next_answer (answer_by a)) rest) begins ∙ (ap (λ (xs : List ℕ). answer_of (answer_by first) ++ xs) (flat_map-map next_answer answer_by rest) ∙ ap (λ (all : List Shown). answers_bytes (map answer_by all)) (sym parts)))
 
 pub if_ok_map : {X E : Type 0} (r : Result X E) (P Q : X → Type 0) → ((x : X) → P x → Q x) → IfOk r P → IfOk r Q
 if_ok_map (Ok x) P Q f h = f x h

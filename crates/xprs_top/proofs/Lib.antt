@@ -6,7 +6,9 @@ pub mod Short
 pub mod Indexes
 pub mod Stored
 pub mod Devices
+pub mod Few
 pub mod Asked
+pub mod Answered
 pub mod Explained
 pub mod Caused
 pub mod OneJob

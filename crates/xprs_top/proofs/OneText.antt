@@ -10,6 +10,7 @@ use Rattle.rel_meaning.specs.declared.query.Table.{Table}
 use Rattle.rel_meaning.specs.Expression.{Question}
 use Rattle.plan_tree.specs.Explained.{explained}
 use Rattle.plan_tree.specs.Views.{Planned}
+use Rattle.plan_tree.specs.declared.tree.Method.{Method}
 use Rattle.postquel_tokens.specs.declared.fault.TextErr.{TextErr}
 use Rattle.postquel_tokens.specs.declared.fault.TextErr.TheVariants as text_err
 use Rattle.postquel_tokens.specs.declared.form.IntoForm.{IntoForm}
@@ -30,7 +31,8 @@ use Rattle.xprs_top.specs.declared.goal.Aim.{Aim}
 use Rattle.xprs_top.specs.declared.goal.Aim.TheVariants.{Print, Make}
 use Rattle.xprs_top.specs.Readings.{Checked, Files, IsJob, IsScript, Job, bind, check_of, checked_in, is_unbuilt, job_by, over, over_tables, table_of, tables_of, write}
 use Rattle.xprs_top.specs.Requests.{Request}
-use Rattle.xprs_top.specs.Texts.{IsText}
+use Rattle.xprs_top.specs.Answers.{answers_bytes, shown}
+use Rattle.xprs_top.specs.Texts.{IsText, headers_by, kept_by}
 use Rattle.xprs_top.proofs.Asked.{planned}
 use Rattle.xprs_top.proofs.Tables.{table_with}
 
@@ -142,40 +144,40 @@ script_plannable files relations name checked (bytes, f, (program, (tokens, l, r
 -- ---- what is known of a job
 
 -- the tables are those of the files, and each part of the script is built
-pub record IsOver (files : Files) (checked : Checked) (db : List Table) : Type 0 where
+pub record IsOver (files : Files) (goal : Goal) (checked : Checked) (db : List Table) : Type 0 where
   pub tables : tables_of files checked.catalog ≡ Ok db
-  pub built : is_unbuilt checked.program ≡ false
+  pub built : is_unbuilt goal checked.program ≡ false
 
 over_same : (goal other : Goal) (machine m : Machine) (checked found : Checked)
     (db tables : List Table) →
     ◌≡◌ {A = Result Job Status} (Ok (over goal machine checked tables)) (Ok (over other m found db)) →
-    (checked ≡ found) × (tables ≡ db)
-over_same goal other machine m checked found db tables e = (cc, cc)
+    (checked ≡ found) × (tables ≡ db) × (goal ≡ other)
+over_same goal other machine m checked found db tables e = (cc, cc, cc)
 
 is_over : (files : Files) (goal other : Goal) (machine m : Machine) (checked found : Checked)
     (db : List Table) →
     bind (tables_of files checked.catalog) (over_tables goal machine checked) ≡
-    Ok (over other m found db) → (checked ≡ found) × IsOver files checked db
+    Ok (over other m found db) → (checked ≡ found) × IsOver files other checked db
 is_over files goal other machine m checked found db e =
     by (tables_of files checked.catalog) refl e where
       built : (tables : List Table) → tables_of files checked.catalog ≡ Ok tables →
-          (b : Bool) → is_unbuilt checked.program ≡ b →
+          (b : Bool) → is_unbuilt goal checked.program ≡ b →
           (if b then Err (NotBuilt Folds) else Ok (over goal machine checked tables)) ≡
-          Ok (over other m found db) → (checked ≡ found) × IsOver files checked db
+          Ok (over other m found db) → (checked ≡ found) × IsOver files other checked db
       built tables f true g h = absurd cc
       built tables f false g h =
           let same = over_same goal other machine m checked found db tables h in
-          (same.0, record { tables = f ∙ ap (λ (ts : List Table). Ok ts) same.1; built = g })
+          (same.0, record { tables = f ∙ ap (λ (ts : List Table). Ok ts) same.1; built = subst (λ (x : Goal). is_unbuilt x checked.program ≡ false) same.2 g })
 
       by : (r : Result (List Table) Status) → tables_of files checked.catalog ≡ r →
           bind r (over_tables goal machine checked) ≡ Ok (over other m found db) →
-          (checked ≡ found) × IsOver files checked db
-      by (Ok tables) f h = built tables f (is_unbuilt checked.program) refl h
+          (checked ≡ found) × IsOver files other checked db
+      by (Ok tables) f h = built tables f (is_unbuilt goal checked.program) refl h
       by (Err s) f h = absurd cc
 
 by_aim : (files : Files) (aim : Aim) (goal : Goal) (m : Machine) (checked found : Checked)
     (db : List Table) → job_by files aim checked ≡ Ok (over goal m found db) →
-    (checked ≡ found) × IsOver files checked db
+    (checked ≡ found) × IsOver files goal checked db
 by_aim files Print goal m checked found db e = absurd cc
 by_aim files (Make wanted machine) goal m checked found db e =
     is_over files wanted goal machine m checked found db e
@@ -185,10 +187,10 @@ pub record MayExplain (checked : Checked) (db : List Table) : Type 0 where
   pub count : length db ≡ length checked.catalog
   pub planned : All (MayPlan checked.catalog) checked.questions
 
-job_planned : (files : Files) (request : Request) (goal : Goal) (m : Machine) (found : Checked)
-    (db : List Table) → IsJob files request (Ok (over goal m found db)) → MayExplain found db
-job_planned files request goal m found db (checked, (relations, c, s), j) =
-    let is = by_aim files request.aim goal m checked found db j in
+job_planned : (files : Files) (request : Request) (method : Method) (m : Machine) (found : Checked)
+    (db : List Table) → IsJob files request (Ok (over (Plans method) m found db)) → MayExplain found db
+job_planned files request method m found db (checked, (relations, c, s), j) =
+    let is = by_aim files request.aim (Plans method) m checked found db j in
     subst (λ (k : Checked). MayExplain k db) is.0 (record {
       count = as_many files checked.catalog db is.1.tables;
       planned = script_plannable files relations request.script checked s
@@ -198,12 +200,24 @@ job_planned files request goal m found db (checked, (relations, c, s), j) =
 
 -- ---- the text
 
+all_same : (a b : List (List (List Value))) → ◌≡◌ {A = List (Option (List (List Value)))} (map (λ rows. Some rows) a) (map (λ rows. Some rows) b) → a ≡ b
+all_same [] [] e = refl
+all_same [] (y ∷ ys) e = absurd cc
+all_same (x ∷ xs) [] e = absurd cc
+all_same (x ∷ xs) (y ∷ ys) e =
+    let first : x ≡ y = cc in
+    let others : ◌≡◌ {A = List (Option (List (List Value)))} (map (λ rows. Some rows) xs) (map (λ rows. Some rows) ys) = cc in
+    let rest = all_same xs ys others in
+    λ k. first k ∷ rest k
+
 pub one_text : (files : Files) (request : Request) (job : Job) (a b : List ℕ) →
     IsJob files request (Ok job) → IsText job a → IsText job b → a ≡ b
 one_text files request (write bytes) a b j h k = h ∙ sym k
-one_text files request (over Answers machine checked db) a b j h k = h ∙ sym k
+one_text files request (over Answers machine checked db) a b j h k =
+    let same : h.answers ≡ k.answers = all_same h.answers k.answers (sym h.are ∙ k.are) in
+    h.is ∙ (ap (λ (answers : List (List (List Value))). answers_bytes (shown (kept_by checked) (headers_by checked) answers)) same ∙ sym k.is)
 one_text files request (over (Plans m) machine checked db) a b j h k =
-    let may = job_planned files request (Plans m) machine checked db j in
+    let may = job_planned files request m machine checked db j in
     let same : h.plans ≡ k.plans =
     one_list checked.catalog db h.tables k.tables m checked.questions h.plans k.plans may.count
     may.planned h.stored k.stored h.best k.best in

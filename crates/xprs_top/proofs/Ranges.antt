@@ -17,7 +17,7 @@ use Rattle.io_cpu_scheduler.specs.Limits.{IsMachine}
 use Rattle.xprs_top.specs.declared.goal.Aim.TheVariants.{Make}
 use Rattle.xprs_top.specs.declared.goal.Goal.TheVariants.{Answers}
 use Rattle.xprs_top.specs.declared.status.Status.{Status}
-use Rattle.xprs_top.specs.declared.status.Status.TheVariants.{Done, Usage, Refused, ShelfFault, DriveFault, Bad, SinkFault, NoMemory, DriveFull, NotBuilt}
+use Rattle.xprs_top.specs.declared.status.Status.TheVariants.{Done, Usage, Refused, ShelfFault, DriveFault, Bad, SinkFault, NoMemory, DriveFull, NotBuilt, TooLarge}
 use Rattle.xprs_top.specs.declared.status.Unbuilt.TheVariants.{Trace}
 use Rattle.xprs_top.specs.declared.words.Operands.{Operands}
 use Rattle.xprs_top.specs.Requests as Requests
@@ -214,6 +214,7 @@ asked_of given a o found is some shows = rw (← is, some) (weaker (served a) fo
   weaker f (Err Usage) shows = shows
   weaker f (Err (NotBuilt what)) shows = shows
   weaker f (Err NoMemory) shows = tt
+  weaker f (Err (TooLarge number)) shows = absurd shows
   weaker f (Err Done) shows = absurd shows
   weaker f (Err (Refused r)) shows = absurd shows
   weaker f (Err ShelfFault) shows = absurd shows

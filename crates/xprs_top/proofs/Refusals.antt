@@ -4,7 +4,7 @@ use Rattle.std.specs.Prelude.{is_some, IsTrue}
 use Rattle.xp_outside.specs.declared.drive.Drive.{Ghosts}
 use Rattle.table_store.specs.Readings.{AllTell}
 use Rattle.xprs_top.specs.declared.status.Status.{Status}
-use Rattle.xprs_top.specs.declared.status.Status.TheVariants.{Done, Usage, Refused, ShelfFault, DriveFault, Bad, SinkFault, NoMemory, DriveFull, NotBuilt}
+use Rattle.xprs_top.specs.declared.status.Status.TheVariants.{Done, Usage, Refused, ShelfFault, DriveFault, Bad, SinkFault, NoMemory, DriveFull, NotBuilt, TooLarge}
 use Rattle.heap_page.specs.declared.errors.BadPage.{BadPage}
 use Rattle.heap_page.specs.Maps.{drive_of}
 use Rattle.xprs_top.specs.declared.goal.Goal.TheVariants.{Answers, Plans}
@@ -12,6 +12,7 @@ use Rattle.xprs_top.specs.Devices.{Exceeds, IsRoomy, IsUntold, ReadsBad}
 use Rattle.xprs_top.specs.Readings.{Files, IsJob, Job, write, over}
 use Rattle.xprs_top.specs.Runs.{Asks, Caused, Completes, Faulty, Outside, Refuses}
 use Rattle.xprs_top.specs.Requests.{Form, Request}
+use Rattle.xprs_top.specs.Texts.{IsTooLarge}
 use Rattle.xprs_top.proofs.OneJob.{one_job}
 
 abbrev Found : Type 0
@@ -56,6 +57,7 @@ module _ {D : Type 0} (g : Ghosts D) where
   refused form o drives SinkFault h request files fault e f k = absurd (not_asked fault h.0 (asks_is o.files form h.0 request files (Err fault) e f k h.2))
   refused form o drives NoMemory h request files fault e f k = tt
   refused form o drives (DriveFull d needs capacity) h request files fault e f k = absurd (not_asked fault h.0 (asks_is o.files form h.0 request files (Err fault) e f k h.1))
+  refused form o drives (TooLarge number) h request files fault e f k = absurd (not_asked fault h.0 (asks_is o.files form h.0 request files (Err fault) e f k h.1))
   refused form o drives (NotBuilt what) h request files fault e f k = elim h.0 [
     | inl words ↦ absurd (unasked request (NotBuilt what) (sym e ∙ words))
     | inr shows ↦ same_fault fault (NotBuilt what)
@@ -78,18 +80,20 @@ module _ {D : Type 0} (g : Ghosts D) where
   untold_of (over (Plans m) machine checked db) bad drives (fit, page) = page.untold
 
   pub completed : (form : Form) (o : Outside) (drives : List D) (status : Status) → Caused g form o drives status → Completes g form o drives status
-  completed form o drives Done h request files job e f k all none roomy s r w = tt
-  completed form o drives Usage h request files job e f k all none roomy s r w = unasked request Usage (sym e ∙ h.0)
-  completed form o drives (Refused x) h request files job e f k all none roomy s r w = no_fault job (Refused x) (faulty_is o.files form (Refused x) request files (Ok job) e f k h.0)
-  completed form o drives ShelfFault h request files job e f k all none roomy s r w = s h.0
-  completed form o drives (DriveFault None) h request files job e f k all none roomy s r w = r h.2
-  completed form o drives (DriveFault (Some d)) h request files job e f k all none roomy s r w = none d h.3
-  completed form o drives (Bad bad) h request files job e f k all none roomy s r w = not_untold drives all (untold_of h.0 bad drives h.2)
-  completed form o drives SinkFault h request files job e f k all none roomy s r w = w h.1
-  completed form o drives NoMemory h request files job e f k all none roomy s r w = tt
-  completed form o drives (DriveFull d needs capacity) h request files job e f k all none roomy s r w =
+  completed form o drives Done h request files job e f k all none roomy small s r w = tt
+  completed form o drives Usage h request files job e f k all none roomy small s r w = unasked request Usage (sym e ∙ h.0)
+  completed form o drives (Refused x) h request files job e f k all none roomy small s r w = no_fault job (Refused x) (faulty_is o.files form (Refused x) request files (Ok job) e f k h.0)
+  completed form o drives ShelfFault h request files job e f k all none roomy small s r w = s h.0
+  completed form o drives (DriveFault None) h request files job e f k all none roomy small s r w = r h.2
+  completed form o drives (DriveFault (Some d)) h request files job e f k all none roomy small s r w = none d h.3
+  completed form o drives (Bad bad) h request files job e f k all none roomy small s r w = not_untold drives all (untold_of h.0 bad drives h.2)
+  completed form o drives SinkFault h request files job e f k all none roomy small s r w = w h.1
+  completed form o drives NoMemory h request files job e f k all none roomy small s r w = tt
+  completed form o drives (DriveFull d needs capacity) h request files job e f k all none roomy small s r w =
       not_full job d needs capacity drives roomy (subst (λ (j : Job). Exceeds g j d needs capacity drives) (same_job job h.0 (asks_is o.files form h.0 request files (Ok job) e f k h.1)) h.2)
-  completed form o drives (NotBuilt what) h request files job e f k all none roomy s r w = elim h.0 [
+  completed form o drives (TooLarge number) h request files job e f k all none roomy small s r w =
+      small number (subst (λ (j : Job). IsTooLarge j number) (same_job job h.0 (asks_is o.files form h.0 request files (Ok job) e f k h.1)) (h.3 all))
+  completed form o drives (NotBuilt what) h request files job e f k all none roomy small s r w = elim h.0 [
     | inl words ↦ unasked request (NotBuilt what) (sym e ∙ words)
     | inr shows ↦ no_fault job (NotBuilt what)
         (faulty_is o.files form (NotBuilt what) request files (Ok job) e f k shows.1)

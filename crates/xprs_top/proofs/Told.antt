@@ -8,7 +8,7 @@ use Rattle.rel_meaning.specs.Meaning.{IsTable}
 use Rattle.name_check.specs.Resolved.{AreTables}
 use Rattle.rel_meaning.specs.declared.query.Table.{Table}
 use Rattle.xprs_top.specs.declared.status.Status.{Status}
-use Rattle.xprs_top.specs.declared.status.Status.TheVariants.{Done, Usage, Refused, ShelfFault, DriveFault, Bad, SinkFault, NoMemory, DriveFull, NotBuilt}
+use Rattle.xprs_top.specs.declared.status.Status.TheVariants.{Done, Usage, Refused, ShelfFault, DriveFault, Bad, SinkFault, NoMemory, DriveFull, NotBuilt, TooLarge}
 use Rattle.xprs_top.specs.Inputs.{OnFiles, Shows, Told, Finds}
 use Rattle.xprs_top.specs.Readings.{Files, Just, Then, bind, table_of, tables_of}
 use Rattle.xprs_top.proofs.Tables.{faulty, one_more, more_tables, table_with}
@@ -31,6 +31,7 @@ module _ {A B X : Type 0} (first : Files → Result A Status → Type 0) (next :
   found_in told before now (Err SinkFault) h f = f
   found_in told before now (Err NoMemory) h f = tt
   found_in told before now (Err (DriveFull d needs capacity)) h f = absurd f
+  found_in told before now (Err (TooLarge number)) h f = absurd f
   found_in told before now (Err (NotBuilt what)) h f = (f.0, there told (Err (NotBuilt what)) h f.1)
 
 one_item_more : (xs : List Relation) (i : ℕ) (d : Relation) → i < length xs → take (i + 1) xs ≡ take i xs ++ get_or xs i d ∷ []
@@ -54,6 +55,7 @@ stopped told then same before mid now le xs i d h ts read (Bad bad) shows = absu
 stopped told then same before mid now le xs i d h ts read SinkFault shows = shows
 stopped told then same before mid now le xs i d h ts read NoMemory shows = tt
 stopped told then same before mid now le xs i d h ts read (DriveFull number needs capacity) shows = absurd shows
+stopped told then same before mid now le xs i d h ts read (TooLarge number) shows = absurd shows
 stopped told then same before mid now le xs i d h ts read (NotBuilt what) shows = (shows.0, by told read (subst (λ t. OnFiles t (λ files. Just (table_of files (get_or xs i d)) (Err (NotBuilt what)))) same shows.1)) where
   by : (t : Option Files) → OnFiles t (λ files. tables_of files (take i xs) ≡ Ok ts) → OnFiles t (λ files. Just (table_of files (get_or xs i d)) (Err (NotBuilt what))) → OnFiles t (λ files. Just (tables_of files xs) (Err (NotBuilt what)))
   by None k e = tt
@@ -107,6 +109,7 @@ module _ {A B X : Type 0} (first : Files → Result A Status → Type 0) (next :
   then_told told then same before mid now le (Err SinkFault) h f = f
   then_told told then same before mid now le (Err NoMemory) h f = tt
   then_told told then same before mid now le (Err (DriveFull d needs capacity)) h f = absurd f
+  then_told told then same before mid now le (Err (TooLarge number)) h f = absurd f
   then_told told then same before mid now le (Err (NotBuilt what)) h f = (f.0, both told (Err (NotBuilt what)) h (subst (λ t. OnFiles t (λ files. next x files (Err (NotBuilt what)))) same f.1))
 
 -- what is found of a first reading, where that is a function
@@ -128,4 +131,5 @@ bound_told {A} {B} {X} first next x view told before now result h f = by told re
   by t (Err SinkFault) h f = f
   by t (Err NoMemory) h f = tt
   by t (Err (DriveFull d needs capacity)) h f = absurd f
+  by t (Err (TooLarge number)) h f = absurd f
   by t (Err (NotBuilt what)) h f = (f.0, there t (Err (NotBuilt what)) h f.1)

@@ -15,10 +15,10 @@ use Rattle.table_store.specs.Files.{file_number}
 use Rattle.table_store.specs.Images.{HoldImage}
 use Rattle.table_store.specs.Readings.{AllTell}
 use Rattle.xprs_top.specs.declared.status.Status.{Status}
-use Rattle.xprs_top.specs.declared.status.Status.TheVariants.{DriveFault, Bad, NoMemory, DriveFull}
+use Rattle.xprs_top.specs.declared.status.Status.TheVariants.{DriveFault, Bad, NoMemory, DriveFull, TooLarge}
 use Rattle.xprs_top.specs.declared.goal.Goal.TheVariants.{Answers, Plans}
 use Rattle.xprs_top.specs.Readings.{Job, write, over}
-use Rattle.xprs_top.specs.Texts.{IsText}
+use Rattle.xprs_top.specs.Texts.{IsText, IsTooLarge}
 
 -- the tables as they are stored, and the places of their pages on so many drives
 pub record Layout (relations : List Relation) (db : List Table) (drives : ℕ) : Type 0 where
@@ -112,12 +112,14 @@ module _ {D : Type 0} (g : Ghosts D) where
   Holds (write text) drives = drives ≡ []
   Holds (over goal machine checked db) drives = (fit : Fit checked.catalog db machine.drives drives) × HoldImage g fit.layout.map_of fit.layout.tables drives
 
-  -- a text that was made is the job's, where all drives tell, and what shows why none was made
+  -- a text that was made is the job's, where all drives tell, and what shows why none was made; so is a
+  -- statement the job's first one that is too large
   abbrev pub Makes : Job → ℕ → ℕ → List D → Result (Vec ℕ) Status → Type 0
   Makes job before now drives (Ok text) = Holds job drives × (AllTell g drives → IsText job text.items)
   Makes job before now drives (Err (DriveFault None)) = Rose before now × (drives ≡ [])
   Makes job before now drives (Err (DriveFault (Some d))) = Fits job drives × HasFailed d drives
   Makes job before now drives (Err (Bad bad)) = ReadsBad job bad drives
   Makes job before now drives (Err (DriveFull d needs capacity)) = Exceeds job d needs capacity drives
+  Makes job before now drives (Err (TooLarge statement)) = Holds job drives × (AllTell g drives → IsTooLarge job statement)
   Makes job before now drives (Err NoMemory) = ⊤
   Makes job before now drives (Err other) = ⊥

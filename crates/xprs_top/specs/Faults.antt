@@ -8,7 +8,7 @@ use Rattle.postquel_tokens.specs.declared.fault.What.TheVariants as what
 use Rattle.catalog_load.specs.declared.fault.TableWhat.{TableWhat}
 use Rattle.catalog_load.specs.declared.fault.TableWhat.TheVariants as table
 use Rattle.xprs_top.specs.declared.status.Status.{Status}
-use Rattle.xprs_top.specs.declared.status.Status.TheVariants.{Done, Usage, Refused, ShelfFault, DriveFault, Bad, SinkFault, NoMemory, DriveFull, NotBuilt}
+use Rattle.xprs_top.specs.declared.status.Status.TheVariants.{Done, Usage, Refused, ShelfFault, DriveFault, Bad, SinkFault, NoMemory, DriveFull, NotBuilt, TooLarge}
 use Rattle.xprs_top.specs.declared.status.Unbuilt.{Unbuilt}
 use Rattle.xprs_top.specs.declared.status.Unbuilt.TheVariants as unbuilt
 use Rattle.xprs_top.specs.declared.status.Refused.TheVariants.{Missing, TooLong, Script, Table}
@@ -75,7 +75,7 @@ abbrev pub unbuilt_name : Unbuilt → List ℕ
 unbuilt_name unbuilt.Run = codes "run is"
 unbuilt_name unbuilt.Generation = codes "gen is"
 unbuilt_name unbuilt.Trace = codes "--trace is"
-unbuilt_name unbuilt.Folds = codes "folds and into are"
+unbuilt_name unbuilt.Folds = codes "plans of folds and into are"
 
 abbrev pub fault_line : Status → List ℕ
 fault_line Done = []
@@ -92,6 +92,7 @@ fault_line SinkFault = line (codes "output failed" ∷ [])
 fault_line NoMemory = line (codes "no memory" ∷ [])
 fault_line (DriveFull d needs capacity) = line (codes "drive " ∷ decimal d ∷ codes " needs " ∷ decimal needs ∷ codes " pages and has " ∷ decimal capacity ∷ [])
 fault_line (NotBuilt what) = line (unbuilt_name what ∷ codes " not built yet" ∷ [])
+fault_line (TooLarge statement) = line (codes "statement " ∷ decimal statement ∷ codes " too large" ∷ [])
 
 -- a piece of a line
 abbrev pub piece_bytes : Piece → List ℕ
@@ -110,3 +111,4 @@ number_of SinkFault = 6
 number_of NoMemory = 7
 number_of (DriveFull d needs capacity) = 8
 number_of (NotBuilt what) = 9
+number_of (TooLarge statement) = 10

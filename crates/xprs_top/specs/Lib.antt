@@ -9,3 +9,4 @@ pub mod Runs
 pub mod Tasks
 pub mod Statuses
 pub mod Counts
+pub mod Shown

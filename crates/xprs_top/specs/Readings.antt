@@ -1,5 +1,5 @@
 -- What files are read as: a value or a fault.
-use Rattle.std.specs.Prelude.{◌≡◌, ◌⊎◌, ℕ, Bool, ◌||◌, List, [], ◌∷◌, map, length, nat_le, if◌then◌else◌, Option, Some, None, Result, Ok, Err}
+use Rattle.std.specs.Prelude.{◌≡◌, ◌⊎◌, ℕ, Bool, false, ◌||◌, List, [], ◌∷◌, map, length, nat_le, if◌then◌else◌, Option, Some, None, Result, Ok, Err}
 use Rattle.std.specs.List.{list_any}
 use Rattle.rows.specs.declared.plain.Machine.{Machine}
 use Rattle.rows.specs.declared.plain.Relation.{Relation}
@@ -30,6 +30,7 @@ use Rattle.xprs_top.specs.declared.status.Unbuilt.TheVariants.{Folds}
 use Rattle.xprs_top.specs.declared.goal.Aim.{Aim}
 use Rattle.xprs_top.specs.declared.goal.Aim.TheVariants.{Print, Make}
 use Rattle.xprs_top.specs.declared.goal.Goal.{Goal}
+use Rattle.xprs_top.specs.declared.goal.Goal.TheVariants.{Answers, Plans}
 use Rattle.xprs_top.specs.Requests.{Request}
 
 abbrev pub Files : Type 0
@@ -115,9 +116,10 @@ tables_of files [] = Ok []
 tables_of files (relation ∷ relations) =
     bind (table_of files relation) (λ rows. bind (tables_of files relations) (λ tables. Ok (record { columns = relation.columns; rows = rows } ∷ tables)))
 
--- whether a statement has a fold or keeps its answer
-abbrev pub is_unbuilt : Program → Bool
-is_unbuilt program = list_any has_fold program.sentences || list_any is_kept program.sentences
+-- plans of a script aren't built where a statement has a fold or keeps its answer
+abbrev pub is_unbuilt : Goal → Program → Bool
+is_unbuilt Answers program = false
+is_unbuilt (Plans m) program = list_any has_fold program.sentences || list_any is_kept program.sentences
 
 -- What a run is to do: write this text, or make what is asked for of the questions of a script and the tables of its catalogue, by
 -- a machine.
@@ -126,7 +128,7 @@ pub data Job : Type 0 where
   over : Goal → Machine → Checked → List Table → Job
 
 abbrev pub over_tables : Goal → Machine → Checked → List Table → Result Job Status
-over_tables goal machine checked db = if is_unbuilt checked.program then Err (NotBuilt Folds) else Ok (over goal machine checked db)
+over_tables goal machine checked db = if is_unbuilt goal checked.program then Err (NotBuilt Folds) else Ok (over goal machine checked db)
 
 abbrev pub job_by : Files → Aim → Checked → Result Job Status
 job_by files Print checked = Ok (write (script_text checked.program))

@@ -10,7 +10,7 @@ use Rattle.table_store.specs.Readings.{AllTell}
 use Rattle.xprs_top.specs.declared.goal.Aim.{Aim}
 use Rattle.xprs_top.specs.declared.goal.Aim.TheVariants.{Print, Make}
 use Rattle.xprs_top.specs.declared.status.Status.{Status}
-use Rattle.xprs_top.specs.declared.status.Status.TheVariants.{Done, Usage, Refused, ShelfFault, DriveFault, Bad, SinkFault, NoMemory, DriveFull, NotBuilt}
+use Rattle.xprs_top.specs.declared.status.Status.TheVariants.{Done, Usage, Refused, ShelfFault, DriveFault, Bad, SinkFault, NoMemory, DriveFull, NotBuilt, TooLarge}
 use Rattle.xprs_top.specs.declared.status.Unbuilt.{Unbuilt}
 use Rattle.xprs_top.specs.declared.status.Unbuilt.TheVariants.{Folds}
 use Rattle.xprs_top.specs.Devices.{Exceeds, Fits, HasFailed, Holds, IsRoomy, NoneFailed, NoneOrAll, ReadsBad}
@@ -18,7 +18,7 @@ use Rattle.xprs_top.specs.Faults.{fault_line}
 use Rattle.xprs_top.specs.Inputs.{OnFiles}
 use Rattle.xprs_top.specs.Readings.{Files, IsJob, Job}
 use Rattle.xprs_top.specs.Requests.{Form, Request, drives_for}
-use Rattle.xprs_top.specs.Texts.{IsText}
+use Rattle.xprs_top.specs.Texts.{IsText, IsTooLarge}
 
 -- the words ask for something, and where the shelf tells its files they give this job
 abbrev pub Asks : Option Files → Form → Job → Type 0
@@ -116,6 +116,10 @@ abbrev pub Refuses : Form → Outside → Status → Type 0
 Refuses form o status = (request : Request) (files : Files) (fault : Status) → form ≡ Ok request → o.files ≡ Some files → IsJob files request (Err fault) →
     IsThisOrShelfFaultOrNoMemory fault status
 
+-- no statement of the job is too large
+abbrev pub NoneTooLarge : Job → Type 0
+NoneTooLarge job = (number : ℕ) → IsTooLarge job number → ⊥
+
 module _ {D : Type 0} (g : Ghosts D) where
   -- what shows each status, the drives that are handed back, and what the output got
   abbrev pub Caused : Form → Outside → List D → Status → Type 0
@@ -130,10 +134,11 @@ module _ {D : Type 0} (g : Ghosts D) where
   Caused form o drives NoMemory = o.new ≡ o.old
   Caused form o drives (DriveFull d needs capacity) = (job : Job) × Asks o.files form job × Exceeds g job d needs capacity drives × (o.new ≡ o.old)
   Caused form o drives (NotBuilt what) = IsUnbuilt o.files form what × (drives ≡ []) × (o.new ≡ o.old)
+  Caused form o drives (TooLarge number) = (job : Job) × Asks o.files form job × Holds g job drives × (AllTell g drives → IsTooLarge job number) × (o.new ≡ o.old)
 
-  -- over told files that give a job, drives that all tell, none of which has failed and each with room for the tables, and with no fault of the
-  -- shelf, the rack or the output, the run is done or lacks memory
+  -- over told files that give a job none of whose statements is too large, drives that all tell, none of which has failed and each with
+  -- room for the tables, and with no fault of the shelf, the rack or the output, the run is done or lacks memory
   abbrev pub Completes : Form → Outside → List D → Status → Type 0
   Completes form o drives status = (request : Request) (files : Files) (job : Job) → form ≡ Ok request → o.files ≡ Some files → IsJob files request (Ok job) →
-      AllTell g drives → NoneFailed g drives → IsRoomy g job drives →
+      AllTell g drives → NoneFailed g drives → IsRoomy g job drives → NoneTooLarge job →
       (Rose o.shelf_before o.shelf_now → ⊥) → (Rose o.rack_before o.rack_now → ⊥) → (Rose o.out_before o.out_now → ⊥) → IsDoneOrNoMemory status

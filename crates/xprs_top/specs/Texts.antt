@@ -1,8 +1,14 @@
 -- The text of a job.
-use Rattle.std.specs.Prelude.{◌≡◌, ℕ, List, [], map, Result, Ok, Err, ⊤}
+use Rattle.std.specs.Prelude.{◌≡◌, ◌+◌, ℕ, List, [], map, Option, Some, Result, Ok, Err, ⊤}
 use Rattle.std.specs.Global.{Vec}
+use Rattle.aggregate_op.specs.declared.fold.FoldPlan.{FoldPlan}
 use Rattle.heap_page.specs.declared.errors.FetchErr.{FetchErr}
+use Rattle.kept_answers.specs.FoldedAnswers.{IsFirstTooLarge, script_answers}
+use Rattle.kept_relations.specs.declared.kept.Kept.{Kept}
+use Rattle.name_check.specs.Folds.{plans_of}
+use Rattle.name_check.specs.Headers.{headers_of, kept_of}
 use Rattle.rows.specs.declared.plain.Machine.{Machine}
+use Rattle.rows.specs.declared.value.Value.{Value}
 use Rattle.rel_meaning.specs.declared.query.Table.{Table}
 use Rattle.table_store.specs.declared.files.StoredTable.{StoredTable}
 use Rattle.table_store.specs.Databases.{AreStored}
@@ -12,11 +18,38 @@ use Rattle.plan_tree.specs.declared.tree.Plan.{Plan}
 use Rattle.plan_tree.specs.Views.{Planned, planned_of}
 use Rattle.query_planner.specs.Plans.{AreBestPlans}
 use Rattle.xprs_top.specs.declared.status.Status.{Status}
-use Rattle.xprs_top.specs.declared.status.Status.TheVariants.{NoMemory}
+use Rattle.xprs_top.specs.declared.status.Status.TheVariants.{NoMemory, TooLarge}
 use Rattle.xprs_top.specs.Statuses.{of_fetch}
 use Rattle.xprs_top.specs.declared.goal.Goal.TheVariants.{Answers, Plans}
-use Rattle.xprs_top.specs.Answers.{answers_bytes}
+use Rattle.xprs_top.specs.Answers.{answers_bytes, shown}
 use Rattle.xprs_top.specs.Readings.{Checked, Job, write, over}
+
+-- what the statements of a script keep, the fold of each, and the names that head its answers
+abbrev pub kept_by : Checked → List Kept
+kept_by checked = kept_of checked.catalog checked.program.sentences
+
+abbrev pub folds_by : Checked → List (Option FoldPlan)
+folds_by checked = plans_of checked.catalog checked.program.sentences
+
+abbrev pub headers_by : Checked → List (List (List ℕ))
+headers_by checked = headers_of checked.catalog checked.program.sentences
+
+-- the answer of each statement, over the tables and what earlier statements keep, and none where it
+-- is too large
+abbrev pub answers_over : Checked → List Table → List (Option (List (List Value)))
+answers_over checked db = script_answers db (kept_by checked) (folds_by checked) checked.questions
+
+-- no answer is too large, and the text has those of the statements that don't keep theirs
+pub record IsAnswered (checked : Checked) (db : List Table) (text : List ℕ) : Type 0 where
+  pub answers : List (List (List Value))
+  pub are : answers_over checked db ≡ map (λ rows. Some rows) answers
+  pub is : text ≡ answers_bytes (shown (kept_by checked) (headers_by checked) answers)
+
+-- the answer of the statement of this number, counted from 1, is the first one that is too large
+pub record IsLarge (checked : Checked) (db : List Table) (number : ℕ) : Type 0 where
+  pub statement : ℕ
+  pub first : IsFirstTooLarge (answers_over checked db) statement
+  pub is : number ≡ statement + 1
 
 -- For each question the lines of its best plan under a method, by what is counted of the tables as they are stored.
 pub record IsExplained (m : Method) (machine : Machine) (checked : Checked) (db : List Table) (text : List ℕ) : Type 0 where
@@ -29,8 +62,21 @@ pub record IsExplained (m : Method) (machine : Machine) (checked : Checked) (db 
 -- the text that is to be written, the answers of the questions, or their plans
 abbrev pub IsText : Job → List ℕ → Type 0
 IsText (write bytes) text = text ≡ bytes
-IsText (over Answers machine checked db) text = text ≡ answers_bytes db checked.questions
+IsText (over Answers machine checked db) text = IsAnswered checked db text
 IsText (over (Plans m) machine checked db) text = IsExplained m machine checked db text
+
+-- the statement that is too large; no plan is
+abbrev pub IsTooLarge : Job → ℕ → Type 0
+IsTooLarge (write bytes) number = ⊥
+IsTooLarge (over Answers machine checked db) number = IsLarge checked db number
+IsTooLarge (over (Plans m) machine checked db) number = ⊥
+
+-- the text of answers that were made, or the statement that is too large
+abbrev pub Answered : Checked → List Table → Result (Vec ℕ) Status → Type 0
+Answered checked db (Ok text) = IsAnswered checked db text.items
+Answered checked db (Err (TooLarge number)) = IsLarge checked db number
+Answered checked db (Err NoMemory) = ⊤
+Answered checked db (Err other) = ⊥
 
 -- the text of plans that were made, or why there is none
 abbrev pub Explains : Machine → Result (List Plan) FetchErr → Result (Vec ℕ) Status → Type 0

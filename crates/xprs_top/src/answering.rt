@@ -1,17 +1,18 @@
 //! Answers from tables on drives.
-ghost use Rattle.std.specs.Prelude.{◌≡◌, ◌++◌, ℕ, length, map, IfOk, All};
+ghost use Rattle.std.specs.Prelude.{◌≡◌, ◌++◌, ◌≤◌, ℕ, length, map, All, IfOk};
 ghost use Rattle.std.specs.List.{flat_map};
-ghost use Rattle.rel_meaning.specs.Expression.{question_of};
-ghost use Rattle.rel_meaning.specs.Meaning.{IsResolved};
+ghost use Rattle.rel_meaning.specs.Meaning.{IsTable};
 ghost use Rattle.table_store.specs.Databases.{AllFresh};
-ghost use Rattle.xprs_top.specs.Answers.{answer_of, answers_bytes, next_answer};
+ghost use Rattle.xprs_top.specs.Answers.{answer_of, answers_bytes, keeps, next_answer, shown};
 ghost use Rattle.xprs_top.specs.declared.goal.Goal.TheVariants.{Answers};
 ghost use Rattle.xprs_top.specs.Counts.{NoOtherFailed, failed_drive};
 ghost use Rattle.xprs_top.specs.Devices.{Makes};
 ghost use Rattle.xprs_top.specs.Inputs.{read_of};
 ghost use Rattle.xprs_top.specs.Readings.{over};
 ghost use Rattle.xprs_top.specs.Requests.{HasMachine};
-ghost use Rattle.xprs_top.specs.Tasks.{IsAnswerable};
+ghost use Rattle.xprs_top.specs.Shown.{answer_by};
+ghost use Rattle.xprs_top.specs.Tasks.{AreOver, IsAnswerable};
+ghost use Rattle.xprs_top.specs.Texts.{Answered};
 
 use crate::Status;
 use crate::goal::Aim;
@@ -19,54 +20,94 @@ use crate::input::Checked;
 use crate::made::Made;
 use crate::spelling::answer_text;
 use heap_page::block_laws;
-use rel_meaning::{Database, Query, answer_plain};
-use rows::Machine;
+use kept_answers::{FoldedAnswers, answer_folded_script};
+use name_check::{Header, Kept};
+use rel_meaning::Database;
+use rows::{Machine, Rows};
 use std::alloc::{AllocError, Global};
 use table_store::{lay_database, read_database};
 use xp_outside::Drive;
 
-// Adds the answer of a query to a text.
-fn with_answer(
-    alloc: Global,
-    text: Vec<u8>,
-    db: &Database,
-    query: &Query,
-) -> Result<Vec<u8>, AllocError>
-    requires { IsResolved db.now (question_of query.now) }
-    ensures { IfOk result (λ v. v.items ≡ text.items ++ answer_of db.now (question_of query.now)) }
+// An answer that is shown: the names that head it, and its rows.
+#[derive(Clone, Copy)]
+struct Shown<'a> {
+    header: &'a Header,
+    rows: &'a Rows,
+}
+
+// Whether the answer of a statement is kept.
+fn keeps(kept: &[Kept], statement: usize) -> bool
+    ensures { result ≡ keeps kept.now statement }
 {
-    let rows = answer_plain(alloc, db, query)?;
-    answer_text(alloc, text, query.targets.items(), &rows)
+    kept.iter().any(|k| k.statement as usize == statement)
+}
+
+// The answers of the statements that don't keep theirs.
+fn shown_answers<'a>(
+    alloc: Global,
+    kept: &[Kept],
+    headers: &'a [Header],
+    answers: &'a [Rows],
+) -> Result<Vec<Shown<'a>>, AllocError>
+    requires { length answers.now ≤ length headers.now }
+    ensures { IfOk result (λ v. map answer_by v.items ≡ shown kept.now headers.now answers.now) }
+{
+    let mut found = Vec::new(alloc);
+    for (statement, rows) in answers.iter().enumerate() {
+        if !keeps(kept, statement) {
+            found.push(Shown {
+                header: &headers[statement],
+                rows,
+            })?;
+        }
+    }
+    Ok(found)
 }
 
 // Adds answers to a text, each behind an empty line.
-fn with_answers(
-    alloc: Global,
-    text: Vec<u8>,
-    db: &Database,
-    queries: &[Query],
-) -> Result<Vec<u8>, AllocError>
-    requires { All (λ q. IsResolved db.now (question_of q)) queries.now }
-    ensures { IfOk result (λ v. v.items ≡ text.items ++ flat_map (λ q. next_answer db.now (question_of q)) queries.now) }
+fn with_answers(alloc: Global, text: Vec<u8>, answers: &[Shown<'_>]) -> Result<Vec<u8>, AllocError>
+    ensures { IfOk result (λ v. v.items ≡ text.items ++ flat_map (λ a. next_answer (answer_by a)) answers.now) }
 {
     let mut text = text;
-    for query in queries {
+    for answer in answers {
         text.push(b'\n')?;
-        text = with_answer(alloc, text, db, query)?;
+        text = answer_text(alloc, text, answer.header, answer.rows)?;
     }
     Ok(text)
 }
 
-// The answers of the queries.
-fn answers(alloc: Global, db: &Database, queries: &[Query]) -> Result<Vec<u8>, AllocError>
-    requires { All (λ q. IsResolved db.now (question_of q)) queries.now }
-    ensures { IfOk result (λ v. v.items ≡ answers_bytes db.now (map question_of queries.now)) }
+// The text of answers.
+fn answers_text(alloc: Global, answers: &[Shown<'_>]) -> Result<Vec<u8>, AllocError>
+    ensures { IfOk result (λ v. v.items ≡ answers_bytes (map answer_by answers.now)) }
 {
-    let Some((first, rest)) = queries.split_first() else {
+    let Some((first, rest)) = answers.split_first() else {
         return Ok(Vec::new(alloc));
     };
-    let text = with_answer(alloc, Vec::new(alloc), db, first)?;
-    with_answers(alloc, text, db, rest)
+    let text = answer_text(alloc, Vec::new(alloc), first.header, first.rows)?;
+    with_answers(alloc, text, rest)
+}
+
+// The answers of a checked script over tables that were read, as a text.
+fn answered_text(alloc: Global, checked: &Checked, db: &Database) -> Result<Vec<u8>, Status>
+    requires over { AreOver checked.now db.now }
+    requires tables { All IsTable db.now }
+    ensures { Answered (read_of checked.now) db.now result }
+{
+    let read = &checked.read;
+    match answer_folded_script(alloc, db, &read.queries, &read.kept, &read.folds)? {
+        FoldedAnswers::Rows(answers) => {
+            let found = shown_answers(
+                alloc,
+                read.kept.items(),
+                read.headers.items(),
+                answers.items(),
+            )?;
+            Ok(answers_text(alloc, found.as_slice())?)
+        }
+        FoldedAnswers::TooLarge { statement } => Err(Status::TooLarge {
+            statement: statement as u32 + 1,
+        }),
+    }
 }
 
 // The answers of a checked script over its tables, which are laid on drives and read back. The rows that are read
@@ -81,7 +122,7 @@ fn laid_answers<D: Drive>(
     requires some { HasMachine (Aim.Make Answers machine.now) }
     requires count { length drives.old ≡ machine.now.drives }
     requires fresh { AllFresh D.Drive drives.old }
-    requires answerable { IsAnswerable checked.now db }
+    requires answerable { IsAnswerable Answers checked.now db }
     ensures count { length drives.new ≡ machine.now.drives }
     ensures made { (before now : ℕ) → Makes D.Drive (over Answers machine.now (read_of checked.now) db) before now drives.new result }
     ensures quiet { NoOtherFailed D.Drive (failed_drive result) drives.new }
@@ -95,7 +136,7 @@ fn laid_answers<D: Drive>(
         Ok(db) => db,
         Err(error) => return Err(Status::from(error)),
     };
-    Ok(answers(alloc, &db, checked.read.queries.items())?)
+    answered_text(alloc, checked, &db)
 }
 
 /// The answers of a checked script over its tables, by way of these drives.
@@ -109,7 +150,7 @@ pub(crate) fn answered<D: Drive>(
     requires some { HasMachine (Aim.Make Answers machine.now) }
     requires count { length drives.items ≡ machine.now.drives }
     requires fresh { AllFresh D.Drive drives.items }
-    requires answerable { IsAnswerable checked.now db }
+    requires answerable { IsAnswerable Answers checked.now db }
     ensures count { length result.drives.items ≡ machine.now.drives }
     ensures made { (before now : ℕ) → Makes D.Drive (over Answers machine.now (read_of checked.now) db) before now result.drives.items result.text }
     ensures quiet { NoOtherFailed D.Drive (failed_drive result.text) result.drives.items }

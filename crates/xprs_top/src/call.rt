@@ -99,7 +99,8 @@ fn run<S: Shelf, K: Rack, W: Sink>(
 /// Does all that the program does, on one thread: reads the words, fetches and reads the catalogue and the script, and
 /// writes a text to `out` and the line of a fault to `err`. For `check` the text is the script in its printed form. For
 /// `alone` the tables are fetched and read in catalogue order, laid on as many drives as the words say and read back page
-/// by page, and the text is the answers of the statements over what was read. For `explain` they are laid on the drives,
+/// by page, and the text is the answers of the statements over what was read and over what earlier statements keep, but for
+/// those that keep theirs. For `explain` they are laid on the drives,
 /// and the text is the plans of the statements by what was written: counts of pages and rows, and searches in the indexes.
 /// The drives are handed back wherever they were mounted. `gen` and a trace aren't built yet, and `run` is for another
 /// call. It always returns. A failure of `err` changes nothing else.
@@ -112,7 +113,8 @@ pub fn answer_alone<S: Shelf, K: Rack, W: Sink, E: Sink>(
     err: &mut E,
 ) -> Outcome<K::Drive>
     // Done: where all drives tell, the output got exactly the text that the words and the files mean, and each drive that
-    // tells holds exactly its part of the tables. Each other status has its cause, and at each but Done and SinkFault the
+    // tells holds exactly its part of the tables. TooLarge: where all drives tell, the answer of that statement is the first
+    // one that is too large. Each other status has its cause, and at each but Done and SinkFault the
     // output got nothing. Bad names one of the rules 1 to 9 and, for `alone`, a page of a table's heap file that its drive
     // doesn't tell, and for `explain` a page of an index, where some drive doesn't tell. At DriveFull the drives are as they
     // were mounted: zeros where they tell.
@@ -127,8 +129,8 @@ pub fn answer_alone<S: Shelf, K: Rack, W: Sink, E: Sink>(
     ensures refuses { Refuses (asked_by (map string_bytes words.now))
         (seen S.Shelf K.Rack W.Sink shelf.old shelf.new rack.old rack.new out.old out.new)
         result.status }
-    // Told files without a fault are answered over drives that tell and have room, unless the shelf, the rack, a drive or the
-    // output fails or memory is wanting.
+    // Told files without a fault, none of whose answers is too large, are answered over drives that tell and have room, unless
+    // the shelf, the rack, a drive or the output fails or memory is wanting.
     ensures complete { Completes K.Drive.Drive (asked_by (map string_bytes words.now))
         (seen S.Shelf K.Rack W.Sink shelf.old shelf.new rack.old rack.new out.old out.new)
         result.drives.items result.status }

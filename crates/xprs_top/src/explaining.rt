@@ -92,7 +92,7 @@ pub(crate) fn explained<D: Drive>(
     requires some { HasMachine (Aim.Make (Plans method) machine.now) }
     requires count { length drives.items ≡ machine.now.drives }
     requires fresh { AllFresh D.Drive drives.items }
-    requires answerable { IsAnswerable checked.now db }
+    requires answerable { IsAnswerable (Plans method) checked.now db }
     ensures count { length result.drives.items ≡ machine.now.drives }
     ensures made { (before now : ℕ) → Makes D.Drive (over (Plans method) machine.now (read_of checked.now) db) before now result.drives.items result.text }
     ensures quiet { NoOtherFailed D.Drive (failed_drive result.text) result.drives.items }

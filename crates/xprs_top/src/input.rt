@@ -71,7 +71,7 @@ fn script_input<S: Shelf>(
     ensures count { S.faults shelf.old ≤ S.faults shelf.new }
     ensures quiet { result ≢ Err status.ShelfFault → Stands (S.faults shelf.old) (S.faults shelf.new) }
     ensures told { Told (S.files shelf.old) (S.faults shelf.old) (S.faults shelf.new) (checked_of catalog.now) result (λ files. IsScript files catalog.now name.now) }
-    ensures serve { IfOk result (λ read. MayServe catalog.now (program_of read.script).sentences read.queries) }
+    ensures serve { IfOk result (MayServe catalog.now) }
 {
     let bytes = fetched(alloc, shelf, name)?;
     checked_script(alloc, name, bytes.as_slice(), catalog)
@@ -89,7 +89,7 @@ pub(crate) fn read_checked<S: Shelf>(
     ensures told { Told (S.files shelf.old) (S.faults shelf.old) (S.faults shelf.new) read_of result (λ files. IsChecked files (request_of operands.now)) }
     ensures limits { IfOk result (λ checked. HasLimits checked.catalog) }
     ensures indexes { IfOk result (λ checked. All HasIndexColumn checked.catalog) }
-    ensures serve { IfOk result (λ checked. MayServe checked.catalog (program_of checked.read.script).sentences checked.read.queries) }
+    ensures serve { IfOk result (λ checked. MayServe checked.catalog checked.read) }
 {
     let catalog = catalog_input(alloc, shelf, operands.catalog)?;
     let read = script_input(alloc, shelf, &catalog, operands.script)?;

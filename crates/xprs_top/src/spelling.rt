@@ -2,12 +2,11 @@ ghost use Rattle.std.specs.Prelude.{◌≡◌, ◌++◌, IfOk, OnOk, map};
 ghost use Rattle.std.specs.Io.KnownBytes.{Appends};
 ghost use Rattle.std.specs.List.{flat_map};
 ghost use Rattle.csv.specs.Writing.{default_writer, row_text};
-ghost use Rattle.rel_meaning.specs.Expression.{output_of};
 ghost use Rattle.rows.specs.Fields.{field_bytes};
-ghost use Rattle.xprs_top.specs.Answers.{text_of, IsReady, row_record, answer_bytes, target_names};
+ghost use Rattle.xprs_top.specs.Answers.{Answer, IsReady, answer_of, row_record, text_of};
 
 use csv::{Writer, WriterBuilder};
-use rel_meaning::Target;
+use name_check::Header;
 use rows::{Row, Rows, field_text};
 use std::alloc::{AllocError, Global};
 
@@ -50,27 +49,27 @@ fn row_fields(alloc: Global, row: &Row) -> Result<Vec<Vec<u8>>, AllocError>
     Ok(fields)
 }
 
-fn name_fields(alloc: Global, targets: &[Target]) -> Result<Vec<Vec<u8>>, AllocError>
-    ensures { IfOk result (λ fields. map (λ f. f.items) fields.items ≡ target_names (map output_of targets.now)) }
+fn name_fields(alloc: Global, header: &Header) -> Result<Vec<Vec<u8>>, AllocError>
+    ensures { IfOk result (λ fields. map (λ f. f.items) fields.items ≡ header.now) }
 {
     let mut fields = Vec::new(alloc);
-    for target in targets {
-        fields.push(Vec::from_slice(alloc, target.name.items())?)?;
+    for name in header.items() {
+        fields.push(Vec::from_slice(alloc, name.items())?)?;
     }
     Ok(fields)
 }
 
-/// Adds an answer to a text: the names of the targets, and then the rows.
+/// Adds an answer to a text: the names that head it, and then the rows.
 pub(crate) fn answer_text(
     alloc: Global,
     text: Vec<u8>,
-    targets: &[Target],
+    header: &Header,
     rows: &Rows,
 ) -> Result<Vec<u8>, AllocError>
-    ensures { IfOk result (λ v. v.items ≡ text.items ++ answer_bytes (map output_of targets.now) rows.now) }
+    ensures { IfOk result (λ v. v.items ≡ text.items ++ answer_of (record { header = header.now; rows = rows.now })) }
 {
     let mut writer = WriterBuilder::new().from_writer(text);
-    let names = name_fields(alloc, targets)?;
+    let names = name_fields(alloc, header)?;
     put_record(alloc, &mut writer, names.as_slice())?;
     for row in rows.items() {
         let fields = row_fields(alloc, row)?;

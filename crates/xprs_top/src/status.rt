@@ -44,7 +44,7 @@ pub enum Unbuilt {
     Generation,
     /// `alone --trace`, the answers with the events of the run.
     Trace,
-    /// A script with a fold, or one that keeps an answer.
+    /// `explain` of a script with a fold, or of one that keeps an answer.
     Folds,
 }
 
@@ -75,6 +75,11 @@ pub enum Status {
     },
     /// The words or the script ask for what isn't built yet.
     NotBuilt(Unbuilt),
+    /// The answer of this statement, counted from 1, is too large: a sum leaves 64 bits, or a group has
+    /// 2^48 rows.
+    TooLarge {
+        statement: u32,
+    },
 }
 
 impl Status {
@@ -93,6 +98,7 @@ impl Status {
             Status::NoMemory => 7,
             Status::DriveFull { .. } => 8,
             Status::NotBuilt(_) => 9,
+            Status::TooLarge { .. } => 10,
         }
     }
 }

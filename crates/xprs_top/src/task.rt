@@ -35,11 +35,14 @@ pub(crate) enum Task {
     },
 }
 
-// Whether a part of the script isn't built yet.
-fn has_unbuilt(script: &Script) -> bool
-    ensures { result ≡ is_unbuilt (program_of script.now) }
+// Whether what is asked for of the script isn't built yet.
+fn has_unbuilt(goal: Goal, script: &Script) -> bool
+    ensures { result ≡ is_unbuilt goal (program_of script.now) }
 {
-    has_fold(script) || has_into(script)
+    match goal {
+        Goal::Answers => false,
+        Goal::Plans(_) => has_fold(script) || has_into(script),
+    }
 }
 
 // To write a script in its printed form.
@@ -54,13 +57,13 @@ fn print_task(alloc: Global, script: &Script) -> Result<Task, Status>
 // To make something of a checked script and its tables.
 fn built_task(goal: Goal, machine: Machine, checked: Checked, db: Database) -> Result<Task, Status>
     requires drives { HasMachine (Aim.Make goal machine) }
-    requires serve { MayServe checked.catalog (program_of checked.read.script).sentences checked.read.queries }
+    requires serve { MayServe checked.catalog checked.read }
     requires stored { MayStore checked.catalog db }
     ensures value { Finds job_of result (Just (over_tables goal machine (read_of checked) db)) }
     ensures ready { IfOk result IsReady }
     ensures drives { IfOk result (λ task. task_drives task ≡ machine.drives) }
 {
-    if has_unbuilt(&checked.read.script) {
+    if has_unbuilt(goal, &checked.read.script) {
         return Err(Status::NotBuilt(Unbuilt::Folds));
     }
     Ok(Task::Over {
@@ -82,7 +85,7 @@ fn tables_task<S: Shelf>(
     requires drives { HasMachine (Aim.Make goal machine) }
     requires limits { HasLimits checked.catalog }
     requires indexes { All HasIndexColumn checked.catalog }
-    requires serve { MayServe checked.catalog (program_of checked.read.script).sentences checked.read.queries }
+    requires serve { MayServe checked.catalog checked.read }
     ensures files { S.files shelf.new ≡ S.files shelf.old }
     ensures count { S.faults shelf.old ≤ S.faults shelf.new }
     ensures quiet { result ≢ Err status.ShelfFault → Stands (S.faults shelf.old) (S.faults shelf.new) }

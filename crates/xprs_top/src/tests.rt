@@ -52,8 +52,12 @@ check machine 2 after 01,8 after 3\\g -> 0 machine 2 after 1, 8 after 3 \\g|
 check retrieve into EMP (x = 1) \\g -> 2 xprs: q:1:15: DoubleRelation|
 check retrieve into T (n = count(EMP.name)) \\g -> 2 xprs: q:1:10: FoldInto|
 check retrieve (T.x) \\g retrieve into T (x = 1) \\g -> 2 xprs: q:1:11: NoRange|
-alone retrieve into T (x = 1) \\g -> 9 xprs: folds and into are not built yet|
-alone retrieve (n = count(EMP.name)) \\g -> 9 xprs: folds and into are not built yet|";
+alone retrieve into T (x = 1) \\g -> 0 
+alone retrieve into RICH (EMP.name, EMP.dept, big = EMP.sal * 10) where EMP.sal > 1000 \\g retrieve (RICH.name, DEPT.floor) where RICH.dept = DEPT.dname and RICH.big > 13000 \\g -> 0 name,floor|Cid,1|
+alone retrieve (x = 1) \\g retrieve into T (y = 2) \\g retrieve (T.all) \\g -> 0 x|1||y|2|
+alone retrieve (EMP.dept, n = count(EMP.name), s = sum(EMP.sal), lo = min(EMP.sal)) \\g -> 0 dept,n,s,lo|shoe,1,1500,1500|toy,2,2100,900|
+alone retrieve (s = sum(P.a), P.b, most = max(P.a)) sort by s using > \\g -> 0 s,b,most|3,,3|1,2,1|
+alone retrieve (n = count(EMP.name), s = sum(EMP.sal)) where EMP.sal > 9000 \\g -> 0 n,s|0,|";
 
 // Each line is a file and its other bytes, a script, and what is answered.
 const OTHERS: &str =
@@ -66,6 +70,8 @@ emp.csv name,dept,sal| @ retrieve (EMP.name) \\g -> 0 name|
 emp.csv name,dept,sal|Ann,toy,1200|Bob,toy,900|Cid,shoe,1500|Abe,toy,900| @ retrieve (EMP.name, EMP.sal) sort by sal using > \\g -> 0 name,sal|Cid,1500|Ann,1200|Abe,900|Bob,900|
 emp.csv name,dept,sal|Ann| @ retrieve (n = count(EMP.name)) \\g -> 2 xprs: emp.csv: record 2 column 0: FieldCount|
 item.csv id,title,price,sold^|10,\"Lamp, small\",2500,t^|11,Chair,4000,false^|12,Desk,12000,f^|7,\"12\"\" ruler\",150,true^| @ retrieve (ITEM.title, gross = ITEM.price * 119) where ITEM.id >= 8 and not ITEM.sold sort by gross using > \\g retrieve (i.all) from i in ITEM where i.sold \\g -> 0 title,gross|Desk,1428000|Chair,476000||id,title,price,sold|7,\"12\"\" ruler\",150,t|10,\"Lamp, small\",2500,t|
+e.csv a|-2147483648| @ retrieve (s = sum(E.a * E.a)) \\g -> 0 s|4611686018427387904|
+e.csv a|-2147483648|-2147483648| @ retrieve (n = count(E.a)) \\g retrieve (s = sum(E.a * E.a)) \\g -> 10 xprs: statement 2 too large|
 cat relation A from \"a\" (x = int4, x = bool) @ retrieve (x = ) \\g -> 2 xprs: cat:1:32: DoubleColumn|
 cat relation P from \"nulls.csv\" (n = text null, a = int4 null, b = int4 null) @ retrieve unique (P.b) where P.n is null or P.b is null \\g -> 0 b|\"\"|
 cat relation Z from \"z.csv\" (n = text) @ retrieve (x = 1) \\g -> 2 xprs: z.csv: missing|";
@@ -76,7 +82,7 @@ const PLANS: &str =
 --join hash @ retrieve (e.name, d.floor, x = f.name) from e in EMP, d in DEPT, f in EMP where e.dept = d.dname and f.sal = 900 \\g -> 0 statement 1 cost 53|plan (e:heap * (f:heap * d:heap))|
 --join merge @ retrieve (e.name, d.floor) from e in EMP, d in DEPT where e.dept = d.dname \\g -> 0 statement 1 cost 43|plan (e:heap ~ d:heap)|
  @ retrieve (x = 1) \\g retrieve (ITEM.title) where ITEM.id = 7 \\g -> 0 statement 1 cost 1|plan one|statement 2 cost 12|plan ITEM:heap|
- @ retrieve (n = count(EMP.name)) \\g -> 9 xprs: folds and into are not built yet|
+ @ retrieve (n = count(EMP.name)) \\g -> 9 xprs: plans of folds and into are not built yet|
  @ retrieve (EMP.name)| -> 2 xprs: q:2:1: Unexpected|";
 
 // Each line is the words of a run, and what is answered.
@@ -183,6 +189,9 @@ fn words_of(alloc: Global, words: &[&str]) -> Result<Vec<String>, AllocError> {
 // The number of a status, a space, and what was written to the output and then of the fault.
 fn left(alloc: Global, status: u8, out: &MemSink, err: &MemSink) -> Result<Vec<u8>, AllocError> {
     let mut left = Vec::new(alloc);
+    if status >= 10 {
+        left.push(b'1')?;
+    }
     left.push(b'0' + status % 10)?;
     left.push(b' ')?;
     left.extend_from_slice(out.bytes())?;

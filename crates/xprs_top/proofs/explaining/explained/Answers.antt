@@ -1,3 +1,7 @@
+use Rattle.std.specs.List.{list_any}
+use Rattle.postquel.specs.Program.{program_of}
+use Rattle.name_check.specs.Sentences.{has_fold, is_kept}
+use Rattle.xprs_top.proofs.Joined.{or_right}
 use Rattle.std.proofs.Common.{◌≡◌, ◌∙◌, sym, subst, ap, length, drop, take, ◌++◌, arith, Err}
 use Rattle.table_store.specs.Databases.{AllFresh}
 use Rattle.heap_page.specs.Stores.{AreQuiet, AreRead, fetch_fault}
@@ -39,6 +43,11 @@ plan_queries-plans-requires-clause-room g c =
     let count : length olds ≡ c.args.machine.now.drives = ap length c.as_mut_slice.ensures.value ∙ c.requires.count in
     let same : c.args.drives.len ≡ length mids = omega (arith, c.in-Ok.ensures.kept.len, count, c.requires.count, c.args.drives.ok) in
     rw (whole_slice c.args.drives.len mids (drop (length mids) c.args.drives.items) same) c.in-Ok.ensures.laid.room
+
+pub plan_queries-plans-requires-clause-queries : goal.plan_queries-plans-requires-clause-queries
+plan_queries-plans-requires-clause-queries g c =
+    let sentences = (program_of c.args.checked.now.read.script).sentences in
+    rw c.items-queries.ensures (c.requires.answerable.serve.planned (or_right (list_any has_fold sentences) (list_any is_kept sentences) c.requires.answerable.built))
 
 pub returns-clause-made : goal.returns-clause-made
 returns-clause-made g c = λ before now.
