@@ -1,5 +1,5 @@
 -- The rows of queries whose targets fit a fold may be folded; and the steps of a loop over the answers of statements.
-use Rattle.std.proofs.Common.{◌≡◌, ℕ, ◌+◌, suc, zero, List, [], ◌∷◌, ◌++◌, length, map, Option, Some, None, refl, sym, ap, ◌∙◌, subst, append_assoc, length-append}
+use Rattle.std.proofs.Common.{◌≡◌, ℕ, ◌+◌, suc, List, [], ◌∷◌, ◌++◌, length, Option, Some, None, refl, ap, ◌∙◌}
 use Rattle.std.specs.List.{All, AllByRecursion}
 use Rattle.std.specs.Prelude.{IfSome}
 use Rattle.rows.specs.declared.value.Value.{Value}
@@ -16,7 +16,7 @@ use Rattle.aggregate_op.specs.declared.fold.FoldOp.TheVariants.{Count, Min, Max,
 use Rattle.aggregate_op.specs.declared.fold.FoldPlan.{FoldPlan}
 use Rattle.aggregate_op.specs.Partials.{AreOpValues, IsFoldRow, IsInteger}
 use Rattle.kept_relations.specs.declared.kept.Kept.{Kept}
-use Rattle.kept_answers.specs.FoldedAnswers.{folded, folded_from, folded_answers, plan_at, AreOpColumns, FitFolds, FitFoldsFrom, FoldQueries, FoldQueriesFrom, FoldsTargets, IsFirstTooLarge}
+use Rattle.kept_answers.specs.FoldedAnswers.{plan_at, AreOpColumns, FitFolds, FitFoldsFrom, FoldQueries, FoldQueriesFrom, FoldsTargets}
 use Rattle.kept_answers.specs.KeptAnswers.{answers_from, answers_of, columns_behind, database_columns, kept_of, tables_behind, FitColumns, FitKept, FitQueries, FitsTargets}
 use Rattle.kept_answers.proofs.Fitting.{database_fits, fit_behind, fit_tables, meaning_typed}
 

@@ -1,7 +1,7 @@
 -- The queries of the tests are resolved, and their rows may be folded.
-use Rattle.std.proofs.Common.{◌≡◌, ◌<◌, ℕ, zero, suc, ◌+◌, ℤ, List, [], ◌∷◌, ◌++◌, length, map, Option, Some, None, refl, sym, ap, ◌∙◌, subst, arith, IsSome}
+use Rattle.std.proofs.Common.{◌≡◌, ◌<◌, ℕ, zero, suc, ◌+◌, ℤ, List, [], ◌∷◌, length, map, Option, Some, None, refl, sym, arith, IsSome}
 use Rattle.std.specs.List.{AllByRecursion}
-use Rattle.std.specs.Prelude.{IfSome, slice_get}
+use Rattle.std.specs.Prelude.{IfSome}
 use Rattle.rows.specs.declared.value.Value.{Value}
 use Rattle.rows.specs.declared.value.Value.TheVariants.{Number}
 use Rattle.aggregate_op.specs.declared.fold.Fold.{Fold}
@@ -9,7 +9,7 @@ use Rattle.aggregate_op.specs.declared.fold.FoldOp.{FoldOp}
 use Rattle.aggregate_op.specs.declared.fold.FoldOp.TheVariants.{Count, Min, Max, Sum}
 use Rattle.aggregate_op.specs.declared.fold.FoldPlan.{FoldPlan}
 use Rattle.aggregate_op.specs.Partials.{AreOpValues, IsFoldRow}
-use Rattle.kept_answers.specs.FoldedAnswers.{plan_at, plan_in, FitFolds, FitFoldsFrom, FoldQueries}
+use Rattle.kept_answers.specs.FoldedAnswers.{plan_at, FitFolds, FitFoldsFrom, FoldQueries}
 use Rattle.std.proofs.lemmas.List.Elements.{All-from_recursion}
 use Rattle.rows.specs.Layouts.{column_type}
 use Rattle.rel_meaning.specs.Typing.{type_of}

@@ -101,17 +101,18 @@ fn answer_all(
 /// that the statements before it keep, which stand behind the tables in the order of their
 /// statements. The queries are resolved for these relations, and no fold counts. The kept relations
 /// are of other statements each, in their order, and have a column for each target of their query,
-/// with its type and bound. Each table's rows are of its columns. An `Err` is want of memory.
+/// with its type and bound. Each table's rows are of its columns. The tables are given up. An `Err` is
+/// want of memory.
 pub fn answer_script(
     alloc: Global,
-    db: &Database,
+    db: Database,
     queries: &Sequence<Query>,
     kept: &KeptList,
 ) -> Result<AnswerList, AllocError>
-    requires queries { FitKept (database_columns db.now) kept.now (map question_of queries.now) }
-    requires tables { All IsTable db.now }
+    requires queries { FitKept (database_columns db) kept.now (map question_of queries.now) }
+    requires tables { All IsTable db }
     ensures { IfOk result (λ answers.
-        answers ≡ answers_of db.now kept.now (map question_of queries.now)) }
+        answers ≡ answers_of db kept.now (map question_of queries.now)) }
 {
     let mut relations = relations_of(alloc, db)?;
     let answers = answer_all(alloc, &mut relations, queries.items(), kept.items())?;

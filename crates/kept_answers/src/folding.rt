@@ -104,17 +104,17 @@ pub fn answer_folds(
 /// at `answer_script`. An `Err` is want of memory.
 pub fn answer_folded_script(
     alloc: Global,
-    db: &Database,
+    db: Database,
     queries: &Sequence<Query>,
     kept: &KeptList,
     folds: &FoldTable,
 ) -> Result<FoldedAnswers, AllocError>
-    requires queries { FitKept (database_columns db.now) kept.now (map question_of queries.now) }
-    requires tables { All IsTable db.now }
-    requires folds { FoldQueries (database_columns db.now) kept.now folds.now
+    requires queries { FitKept (database_columns db) kept.now (map question_of queries.now) }
+    requires tables { All IsTable db }
+    requires folds { FoldQueries (database_columns db) kept.now folds.now
         (map question_of queries.now) }
     ensures { IfOk result (AreAnswers
-        (script_answers db.now kept.now folds.now (map question_of queries.now))) }
+        (script_answers db kept.now folds.now (map question_of queries.now))) }
 {
     let answers = answer_script(alloc, db, queries, kept)?;
     answer_folds(alloc, answers, folds)

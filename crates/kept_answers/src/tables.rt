@@ -36,27 +36,15 @@ fn table_layouts(alloc: Global, tables: &[Table]) -> Result<Vec<LayoutColumnList
     Ok(layouts)
 }
 
-fn table_copies(alloc: Global, tables: &[Table]) -> Result<Vec<Table>, AllocError>
-    ensures { IfOk result (λ v. v.items ≡ tables.now) }
-{
-    let mut copies = Vec::new(alloc);
-    for table in tables {
-        copies.push(Table {
-            columns: table.columns.copy(alloc)?,
-            rows: table.rows.copy(alloc)?,
-        })?;
-    }
-    Ok(copies)
-}
-
 // The tables of a database.
-pub(crate) fn relations_of(alloc: Global, db: &Database) -> Result<Relations, AllocError>
-    ensures tables { IfOk result (λ r. r.tables ≡ db.now) }
-    ensures columns { IfOk result (λ r. r.columns.items ≡ database_columns db.now) }
+pub(crate) fn relations_of(alloc: Global, db: Database) -> Result<Relations, AllocError>
+    ensures tables { IfOk result (λ r. r.tables ≡ db) }
+    ensures columns { IfOk result (λ r. r.columns.items ≡ database_columns db) }
 {
+    let columns = table_layouts(alloc, db.items())?;
     Ok(Relations {
-        tables: Sequence::from_vec(table_copies(alloc, db.items())?),
-        columns: table_layouts(alloc, db.items())?,
+        tables: db,
+        columns,
     })
 }
 

@@ -95,7 +95,7 @@ fn a_later_statement_reads_what_is_kept(rt: HostRuntime) -> Result<(), Fail> {
     let alloc = rt.alloc();
     let queries = queries(alloc)?;
     let kept = kept_list(alloc)?;
-    let answers = answer_script(alloc, &Sequence::new(alloc), &queries, &kept)?;
+    let answers = answer_script(alloc, Sequence::new(alloc), &queries, &kept)?;
     assert_eq!(rt; answers.len(), 2);
     for rows in answers.items() {
         for row in rows.items() {
@@ -134,7 +134,7 @@ fn a_later_statement_folds_what_is_kept(rt: HostRuntime) -> Result<(), Fail> {
     let queries = queries(alloc)?;
     let kept = kept_list(alloc)?;
     let folds = reading_sum(alloc)?;
-    let answers = answer_folded_script(alloc, &Sequence::new(alloc), &queries, &kept, &folds)?;
+    let answers = answer_folded_script(alloc, Sequence::new(alloc), &queries, &kept, &folds)?;
     let FoldedAnswers::Rows(answers) = answers else {
         return Err(Fail::from("too large"));
     };

@@ -1,10 +1,7 @@
 -- Intervals that bounds leave, and plans over them.
 use Rattle.std.proofs.Common.{◌≡◌, ℕ, ◌≤◌, List, [], ◌∷◌, ◌++◌, length, Option, Some, None, false, refl, sym, subst, ◌∙◌, inl, inr}
 use Rattle.std.specs.Prelude.{◌==◌, slice_get}
-use Rattle.heap_page.proofs.Found.{one_at}
 use Rattle.key_index.specs.Paths.{HasInterval}
-use Rattle.plan_tree.specs.declared.tree.Method.{Method}
-use Rattle.plan_tree.specs.Views.{Planned}
 use Rattle.rel_meaning.specs.declared.query.Var.{Var}
 use Rattle.rel_meaning.specs.Expression.{Question}
 use Rattle.rows.specs.declared.plain.Bound.{Bound}
@@ -15,7 +12,7 @@ use Rattle.seq_optimizer.specs.declared.stats.VarStats.{VarStats}
 use Rattle.table_store.specs.declared.database.Laid.{Laid}
 use Rattle.table_store.proofs.Pages.{get_last}
 use Rattle.query_planner.specs.Counted.{bounds_on}
-use Rattle.query_planner.specs.Plans.{AreLeft, IsLeft, IsPlannedOver}
+use Rattle.query_planner.specs.Plans.{AreLeft, IsLeft}
 
 none_left : (image : Option (ℕ → ℕ → List ℕ)) (bounds : List Bound) → IsLeft image bounds None None
 none_left image [] = refl
@@ -43,17 +40,4 @@ one_left relations laid image q stats n s count h one v var relation index x at_
       let here : v ≡ n = k.0 ∙ count in
       subst (λ (y : VarStats). IsLeft image (bounds_on relation.index v q) index y.interval) k.1
       (subst (λ (m : ℕ). IsLeft image (bounds_on relation.index m q) index s.interval) (sym here) (one var relation index (subst (λ (m : ℕ). slice_get q.vars m ≡ Some var) here at_v) at_r at_i)))
-]
-
--- these plans are those of the first queries
-abbrev pub ArePlannedFirst : List Relation → Laid → Option (ℕ → ℕ → List ℕ) → Method → List Question → List Planned → Type 0
-ArePlannedFirst relations laid image m qs ps = (i : ℕ) (q : Question) (p : Planned) → slice_get qs i ≡ Some q → slice_get ps i ≡ Some p → IsPlannedOver relations laid image m q p
-
-pub one_over : (relations : List Relation) (laid : Laid) (image : Option (ℕ → ℕ → List ℕ)) (m : Method) (qs : List Question) (ps : List Planned) (n : ℕ) (q : Question) (p : Planned) → length ps ≡ n → ArePlannedFirst relations laid image m qs ps → slice_get qs n ≡ Some q → IsPlannedOver relations laid image m q p → ArePlannedFirst relations laid image m qs (ps ++ p ∷ [])
-one_over relations laid image m qs ps n q p count h at is i other x at_q e = elim (get_last ps p i x e) [
-  | inl k ↦ h i other x at_q k
-  | inr k ↦ (
-      let here : i ≡ n = k.0 ∙ count in
-      let same : q ≡ other = one_at qs n q other at (subst (λ (k : ℕ). slice_get qs k ≡ Some other) here at_q) in
-      subst (λ (y : Planned). IsPlannedOver relations laid image m other y) k.1 (subst (λ (y : Question). IsPlannedOver relations laid image m y p) same is))
 ]

@@ -4,6 +4,9 @@ mod Telling
 mod Causing
 mod Counted
 mod SoFar
+pub mod Statements
+mod Cutting
+pub mod MayBeCut
 pub mod Stored
 mod Ranks
 mod EntryRows
@@ -11,3 +14,4 @@ mod PlansMean
 mod ReadingExamples
 mod Left
 pub mod OneList
+mod Sample

@@ -1,7 +1,8 @@
 -- What every tree of a query that fits the counted stats gives.
-use Rattle.std.proofs.Common.{◌≡◌, ℕ, suc, zero, ◌-◌, ◌<◌, ◌≤◌, Bool, true, false, not, ◌==◌, nat_lt, List, [], ◌∷◌, length, map, take, drop, Option, Some, None, IfSome, refl, sym, ap, subst, ◌∙◌, arith, eq-eqb, lt-ltb, slice_get, slice_index_or}
+use Rattle.std.proofs.Common.{◌≡◌, ℕ, suc, zero, ◌-◌, ◌<◌, ◌≤◌, Bool, true, false, not, ◌==◌, nat_lt, List, [], ◌∷◌, ◌++◌, length, inl, inr, map, take, drop, Option, Some, None, IfSome, refl, sym, ap, subst, ◌∙◌, arith, eq-eqb, lt-ltb, slice_get, slice_index_or}
 use Rattle.std.specs.Prelude.{unwrap_or}
 use Rattle.std.specs.List.{AllByRecursion, filter}
+use Rattle.std.proofs.lemmas.Bool.{cases_lt}
 use Rattle.std.proofs.lemmas.List.{drop-map, length-map, take-map}
 use Rattle.std.proofs.lemmas.List.Elements.{recursion_from_All}
 use Rattle.std.proofs.lemmas.Option.{get_or_from_slice_get, slice_get_within, unwrap_or-slice_get}
@@ -17,6 +18,7 @@ use Rattle.rows.specs.RowBytes.{IsRowOf, row_bytes}
 use Rattle.rows.specs.Values.{value_cmp, is_null}
 use Rattle.heap_page.specs.Blocks.{blocks_of, item_weight, joined}
 use Rattle.heap_page.proofs.Cut.{are_blocks}
+use Rattle.kept_relations.specs.declared.kept.Kept.{Kept}
 use Rattle.key_index.specs.Intervals.{interval_of}
 use Rattle.rel_meaning.specs.declared.query.Table.{Table}
 use Rattle.rel_meaning.specs.declared.query.Var.{Var}
@@ -35,6 +37,7 @@ use Rattle.plan_tree.specs.Trees.{IsPlaced, IsTree, Shape, join, one, scan, scan
 use Rattle.plan_tree.proofs.Elements.{all_drop, all_map, all_take}
 use Rattle.plan_tree.proofs.IndexReads.{index_reads}
 use Rattle.plan_tree.proofs.TreeAnswers.{answers}
+use Rattle.plan_tree.proofs.Typing.{get_left}
 use Rattle.seq_optimizer.specs.declared.stats.VarStats.{VarStats}
 use Rattle.seq_optimizer.specs.Bounds.{bounds_of}
 use Rattle.seq_optimizer.specs.Costs.{CanRead, FitsStats}
@@ -43,7 +46,7 @@ use Rattle.table_store.specs.declared.files.StoredTable.{StoredTable}
 use Rattle.table_store.specs.Databases.{AreStored, IsIndexed, IsStored, IsTableOf, MayStore}
 use Rattle.table_store.specs.Entries.{IsIndexOf}
 use Rattle.table_store.specs.Files.{table_blocks}
-use Rattle.query_planner.specs.Counted.{AreStats, bounds_on, interval_in}
+use Rattle.query_planner.specs.Counted.{AreStatsOf, bounds_on, interval_in}
 use Rattle.query_planner.specs.Reading.{entries_in, entry_rows, index_rows, read_by, table_rows, var_rows}
 use Rattle.query_planner.proofs.EntryRows.{Leads, entries_lead, keys_are, row_of, rows_are, rows_ascend, same_rows}
 use Rattle.query_planner.proofs.Ranks.{end_agrees, keys_in, lower_agrees}
@@ -145,11 +148,20 @@ module _ (q : Question) where
     index_scan : interval_in (bounds_on relation.index v q) stored.index ≡ Some interval → Scans stored.index
     index_scan e = by_index relation.index stored.index of.index is.index e
 
-  module _ (relations : List Relation) (db : List Table) (tables : List StoredTable) (stats : List VarStats)
-      (ok : IsResolved db q) (may : MayStore relations db) (laid : AreStored relations db tables) (counted : AreStats relations tables q stats) where
+  module _ (relations : List Relation) (db made : List Table) (tables : List StoredTable)
+      (kept_relations : List Kept) (qs : List Question) (table_of : List (List VarStats))
+      (stats : List VarStats) (ok : IsResolved (db ++ made) q) (may : MayStore relations db)
+      (laid : AreStored relations db tables)
+      (counted : AreStatsOf relations tables kept_relations qs table_of q stats) where
+    -- the tables of the relations, and those behind them
+    abbrev all : List Table
+    all = db ++ made
+
     -- a scan by this interval keeps the rows of the variable's table that pass these tests
     abbrev Reads : ℕ → List Expression → Interval → Option Var → Type 0
-    Reads v tests interval o = SameRows (kept (one_part v (columns_if db o)) tests (var_rows db tables o interval)) (kept (one_part v (columns_if db o)) tests (rows_if db o))
+    Reads v tests interval o = SameRows (kept (one_part v (columns_if all o)) tests
+        (var_rows all tables o interval))
+        (kept (one_part v (columns_if all o)) tests (rows_if all o))
 
     -- the scan of a variable whose table and stats are there
     table_scan : (v : ℕ) (root : Bool) (interval : Interval) (s : VarStats) (var : Var) (relation : Relation) (table : Table) (stored : StoredTable) →
@@ -158,25 +170,39 @@ module _ (q : Question) where
     table_scan v root interval s var relation table stored at var_at relation_at table_at stored_at e =
         let tests : List Expression = scan_tests root (λ u. v == u) cs in
         let counts : interval_in (bounds_on relation.index v q) stored.index ≡ Some interval =
-        sym (ap (λ (x : VarStats). x.interval) (counted.are v var relation stored s var_at relation_at stored_at at)) ∙ e in
+        sym (ap (λ (x : VarStats). x.interval)
+        (counted.of_tables v var relation stored s var_at relation_at stored_at at)) ∙ e in
+        let here : slice_get all var.relation ≡ Some table =
+        get_left db made var.relation (slice_get_within db var.relation table table_at) ∙
+        table_at in
         subst (Reads v tests interval) (sym var_at)
-        (subst (λ (t : Option Table). SameRows (kept (one_part v (columns_at t)) tests (table_rows t (slice_get tables var.relation) interval)) (kept (one_part v (columns_at t)) tests (rows_at t))) (sym table_at)
+        (subst (λ (t : Option Table). SameRows
+        (kept (one_part v (columns_at t)) tests
+        (table_rows t (slice_get tables var.relation) interval))
+        (kept (one_part v (columns_at t)) tests (rows_at t))) (sym here)
         (subst (λ (t : Option StoredTable). SameRows (kept (one_part v (map layout_column table.columns)) tests (table_rows (Some table) t interval)) (kept (one_part v (map layout_column table.columns)) tests table.rows)) (sym stored_at)
         (index_scan v root interval relation table stored (may.each var.relation relation table relation_at table_at) (laid.each var.relation relation table stored relation_at table_at stored_at) counts)))
 
-    -- a variable's relation is one of the database
-    relation_there : (v : ℕ) (var : Var) → slice_get q.vars v ≡ Some var → var.relation < length db
-    relation_there v var at = subst (λ (x : Var). x.relation < length db) (get_or_from_slice_get q.vars v var var at) (ok.relations v var (slice_get_within q.vars v var at))
+    -- a kept relation has no index, and no interval of one
+    none_kept : (interval : Interval) (found : Option Interval) → found ≡ None →
+        found ≡ Some interval → ⊥
+    none_kept interval found none some =
+        let same : ◌≡◌ {A = Option Interval} None (Some interval) = sym none ∙ some in cc
 
     stats_scan : (v : ℕ) (root : Bool) (interval : Interval) (s : VarStats) → slice_get stats v ≡ Some s → s.interval ≡ Some interval → Reads v (scan_tests root (λ u. v == u) cs) interval (slice_get q.vars v)
     stats_scan v root interval s at e =
         let below : v < length stats = slice_get_within stats v s at in
         let var = there q.vars v (omega (arith, below, counted.each)) in
-        let low = relation_there v var.0 var.1 in
-        let table = there db var.0.relation low in
-        let relation = there relations var.0.relation (omega (arith, low, may.count)) in
-        let stored = there tables var.0.relation (omega (arith, low, may.count, laid.count)) in
-        table_scan v root interval s var.0 relation.0 table.0 stored.0 at var.1 relation.1 table.1 stored.1 e
+        elim (cases_lt var.0.relation (length relations)) [
+          | inl low ↦ (
+              let table = there db var.0.relation (omega (arith, low, may.count)) in
+              let relation = there relations var.0.relation low in
+              let stored = there tables var.0.relation (omega (arith, low, laid.count)) in
+              table_scan v root interval s var.0 relation.0 table.0 stored.0 at var.1 relation.1
+              table.1 stored.1 e)
+          | inr behind ↦ absurd (none_kept interval s.interval
+              (counted.of_kept v var.0 s var.1 behind at).interval e)
+        ]
 
     none : VarStats
     none = record { pages = 0; rows = 0; interval = None; height = 0 }
@@ -191,12 +217,15 @@ module _ (q : Question) where
           absurd cc
       by (Some s) at = stats_scan v root interval s at (ap (λ (x : VarStats). x.interval) (sym (get_or_from_slice_get stats v s none at)) ∙ h)
 
-    scan_reads : (v : ℕ) (w : Way) (root : Bool) (tests : List Expression) → CanRead stats v w → tests ≡ scan_tests root (λ u. v == u) cs → ScanReads db q (read_by db tables q) (scan v w tests)
+    scan_reads : (v : ℕ) (w : Way) (root : Bool) (tests : List Expression) → CanRead stats v w →
+        tests ≡ scan_tests root (λ u. v == u) cs →
+        ScanReads all q (read_by all tables q) (scan v w tests)
     scan_reads v way.Heap root tests h e = λ row. refl
     scan_reads v (way.Index interval) root tests h e = subst (λ ts. Reads v ts interval (slice_get q.vars v)) (sym e) (var_scan v root interval h)
 
     -- each scan of the tree
-    reads : (root : Bool) (t : Shape) → IsPlaced cs root t → FitsStats stats t → ScanReads db q (read_by db tables q) t
+    reads : (root : Bool) (t : Shape) → IsPlaced cs root t → FitsStats stats t →
+        ScanReads all q (read_by all tables q) t
     reads root (one tests) placed fits = tt
     reads true (scan v w tests) placed fits = scan_reads v w true tests fits placed
     reads false (scan v w tests) placed fits = scan_reads v w false tests fits placed
@@ -204,5 +233,7 @@ module _ (q : Question) where
     reads false (join m a b keys tests) placed fits = (reads false a placed.0 fits.0, reads false b placed.1 fits.1)
 
     -- every tree of the query that fits the stats means the query
-    pub trees_mean : (m : Method) (t : Shape) → IsTree q m t → FitsStats stats t → tree_answer db q (read_by db tables q) t ≡ meaning db q
-    trees_mean m t tree fits = answers db q ok m t (read_by db tables q) tree (reads true t tree.placed fits)
+    pub trees_mean : (m : Method) (t : Shape) → IsTree q m t → FitsStats stats t →
+        tree_answer all q (read_by all tables q) t ≡ meaning all q
+    trees_mean m t tree fits = answers all q ok m t (read_by all tables q) tree
+        (reads true t tree.placed fits)

@@ -1,9 +1,14 @@
--- What is known of the tables, without where it lies in memory.
-use Rattle.std.specs.Prelude.{ℕ, List, Option}
+-- What is known of the tables and of a script, without where it lies in memory.
+use Rattle.std.specs.Prelude.{ℕ, List, map, Option}
+use Rattle.rel_meaning.specs.Expression.{Question, question_of}
 use Rattle.table_store.specs.declared.files.StoredTable.{StoredTable}
 use Rattle.query_planner.specs.declared.known.Known.{Known}
 use Rattle.query_planner.specs.Stored.{AreOf, Stands}
 use Rattle.query_planner.specs.Told.{AreTold}
+
+-- the queries of the script
+abbrev pub questions_in : Known → List Question
+questions_in known = map question_of known.queries.now
 
 -- these are the tables
 abbrev pub AreKnown : Known → List StoredTable → Type 0

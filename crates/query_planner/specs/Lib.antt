@@ -5,3 +5,5 @@ pub mod Causes
 pub mod Told
 pub mod Known
 pub mod Reading
+pub mod Steps
+pub mod Sample

@@ -1,5 +1,7 @@
 -- Tables that stand on drives, as the planner is told of them.
 use Rattle.std.specs.Prelude.{◌≡◌, ℕ, ◌≤◌, List, length, map, slice_get, Some, is_some, All}
+use Rattle.std.specs.List.{filter_map}
+use Rattle.rows.specs.declared.plain.KeyIndex.{KeyIndex}
 use Rattle.rows.specs.declared.plain.Relation.{Relation}
 use Rattle.table_store.specs.declared.database.Laid.{Laid}
 use Rattle.table_store.specs.declared.files.StoredTable.{StoredTable}
@@ -19,3 +21,7 @@ pub record AreOf (relations : List Relation) (rows : List ℕ) (laid : Laid) (dr
 pub record Stands (relations : List Relation) (rows : List ℕ) (laid : Laid) (drives : ℕ) : Type 0 where
   pub tables : List StoredTable
   pub are : AreOf relations rows laid drives tables
+
+-- the indexes of the tables that have one, in the order of the index files
+abbrev pub laid_indexes : Laid → List KeyIndex
+laid_indexes laid = filter_map (λ index. index) laid.indexes.items

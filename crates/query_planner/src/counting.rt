@@ -1,5 +1,5 @@
-//! What a plan rests on, counted of the tables.
-ghost use Rattle.std.specs.Prelude.{◌≡◌, ◌<◌, ◌≤◌, ℕ, List, Option, Some, IfErr, IfOk, IfSome, MatchResult, length, slice_get};
+//! What a plan rests on, counted of the tables and of the queries that keep relations.
+ghost use Rattle.std.specs.Prelude.{◌≡◌, ◌<◌, ◌≤◌, ◌-◌, ℕ, List, Option, Some, IfErr, IfOk, IfSome, MatchResult, length, slice_get};
 ghost use Rattle.heap_page.specs.Sources.{AreCalm};
 ghost use Rattle.heap_page.specs.Stores.{fetch_fault};
 ghost use Rattle.key_index.specs.Files.{HoldsIndex};
@@ -15,12 +15,14 @@ ghost use Rattle.table_store.specs.declared.files.StoredIndex.{StoredIndex};
 ghost use Rattle.table_store.specs.declared.files.StoredTable.{StoredTable};
 ghost use Rattle.table_store.specs.Files.{numbers_in, table_blocks};
 ghost use Rattle.query_planner.specs.Causes.{ReadCause};
-ghost use Rattle.query_planner.specs.Counted.{AreStats, bounds_on, height_in, interval_in, stats_in};
-ghost use Rattle.query_planner.specs.Known.{AreKnown, IsKnown, Tells};
-ghost use Rattle.query_planner.specs.Plans.{AreLeft, IsLeft, MayPlan};
+ghost use Rattle.query_planner.specs.Counted.{CountAllKept, CountTables, CountsKept, bounds_on, height_in, interval_in, stats_in};
+ghost use Rattle.query_planner.specs.Known.{AreKnown, IsKnown, Tells, questions_in};
+ghost use Rattle.query_planner.specs.Plans.{AreLeft, IsLeft};
+ghost use Rattle.query_planner.specs.Steps.{CanPlanFirst, IsKeptBefore, MayPlanAt};
 
 use crate::known::Known;
 use heap_page::{FetchErr, PageSource};
+use kept_answers::kept_stats;
 use key_index::interval;
 use lists::Sequence;
 use rel_meaning::Query;
@@ -116,17 +118,34 @@ fn interval_on<P: PageSource>(
     left_by(alloc, index, pages, &bounds)
 }
 
-// What is counted for a variable of a query.
+// What is counted of a kept relation, where the queries before this one have these stats.
+fn counted_kept(known: &Known<'_>, table: &[VarStatsList], relation: u32) -> VarStats
+    requires behind { length known.now.relations.now ≤ relation }
+    requires kept { IsKeptBefore known.now.kept.now (length table.now)
+        (relation - length known.now.relations.now) }
+    requires table { CanPlanFirst (questions_in known.now) table.now }
+    ensures { CountsKept known.now.kept.now (questions_in known.now) table.now
+        (relation - length known.now.relations.now) result }
+{
+    let kept = known.kept.get(relation as usize - known.relations.len());
+    let statement = kept.statement as usize;
+    kept_stats(&known.queries[statement], &table[statement])
+}
+
+// What is counted for a variable of a query, where the queries before it have these stats.
 fn stats_of<P: PageSource>(
     alloc: Global,
     pages: &mut P,
     known: &Known<'_>,
+    table: &[VarStatsList],
     query: &Query,
     var: u32,
 ) -> Result<VarStats, FetchErr>
     requires known { IsKnown known.now }
     requires files { P.files (P.whole pages.old) ≡ known.now.laid.now.map.files.items }
-    requires query { MayPlan known.now.relations.now (question_of query.now) }
+    requires query { MayPlanAt (length known.now.relations.now) known.now.kept.now
+        (length table.now) (question_of query.now) }
+    requires table { CanPlanFirst (questions_in known.now) table.now }
     requires var { var < length (question_of query.now).vars }
     ensures whole { P.whole pages.new ≡ P.whole pages.old }
     ensures counts { (d : ℕ) → P.faults pages.old d ≤ P.faults pages.new d }
@@ -134,37 +153,55 @@ fn stats_of<P: PageSource>(
     ensures within { IfOk result (λ s. IfSome s.interval IsInterval) }
     ensures left { (v : Var) (here : Relation) (index : Option KeyIndex) → slice_get (question_of query.now).vars var ≡ Some v → slice_get known.now.relations.now v.relation ≡ Some here → slice_get known.now.laid.now.indexes.items v.relation ≡ Some index →
         IfOk result (λ s. IsLeft (P.image (P.whole pages.old)) (bounds_on here.index var (question_of query.now)) index s.interval) }
-    ensures told { (tables : List StoredTable) (table : StoredTable) (here : Relation) (v : Var) → Tells known.now tables (P.image (P.whole pages.old)) → slice_get (question_of query.now).vars var ≡ Some v →
-        slice_get known.now.relations.now v.relation ≡ Some here → slice_get tables v.relation ≡ Some table → MatchResult result (λ s. s ≡ stats_in (question_of query.now) var here table) NotBad }
+    ensures of_kept { (v : Var) → slice_get (question_of query.now).vars var ≡ Some v →
+        length known.now.relations.now ≤ v.relation →
+        IfOk result (CountsKept known.now.kept.now (questions_in known.now) table.now
+        (v.relation - length known.now.relations.now)) }
+    ensures told { (tables : List StoredTable) →
+        Tells known.now tables (P.image (P.whole pages.old)) →
+        MatchResult result (λ s. (v : Var) (here : Relation) (stored : StoredTable) →
+        slice_get (question_of query.now).vars var ≡ Some v →
+        slice_get known.now.relations.now v.relation ≡ Some here →
+        slice_get tables v.relation ≡ Some stored →
+        s ≡ stats_in (question_of query.now) var here stored) NotBad }
     ensures err { IfErr result (ReadCause known.now.laid.now (P.image (P.whole pages.old)) (P.drives (P.whole pages.old)) (P.faults pages.old) (P.faults pages.new)) }
 {
     let relation = query.vars.get(var as usize).relation;
+    if relation as usize >= known.relations.len() {
+        return Ok(counted_kept(known, table, relation));
+    }
     let interval = interval_on(alloc, pages, known, query, var, relation)?;
     Ok(counted(known, relation, interval))
 }
 
-// What is counted for each variable of a query.
+// What is counted for each variable of a query, where the queries before it have these stats.
 pub(crate) fn all_stats<P: PageSource>(
     alloc: Global,
     pages: &mut P,
     known: &Known<'_>,
+    table: &[VarStatsList],
     query: &Query,
 ) -> Result<VarStatsList, FetchErr>
     requires known { IsKnown known.now }
     requires files { P.files (P.whole pages.old) ≡ known.now.laid.now.map.files.items }
-    requires query { MayPlan known.now.relations.now (question_of query.now) }
+    requires query { MayPlanAt (length known.now.relations.now) known.now.kept.now
+        (length table.now) (question_of query.now) }
+    requires table { CanPlanFirst (questions_in known.now) table.now }
     ensures whole { P.whole pages.new ≡ P.whole pages.old }
     ensures counts { (d : ℕ) → P.faults pages.old d ≤ P.faults pages.new d }
     ensures quiet { AreCalm (P.lone (P.whole pages.old)) (fetch_fault result) (P.faults pages.old) (P.faults pages.new) }
     ensures can { IfOk result (CanPlan (question_of query.now)) }
     ensures left { IfOk result (AreLeft known.now.relations.now known.now.laid.now (P.image (P.whole pages.old)) (question_of query.now)) }
+    ensures of_kept { IfOk result (CountAllKept (length known.now.relations.now) known.now.kept.now
+        (questions_in known.now) table.now (question_of query.now)) }
     ensures told { (tables : List StoredTable) → Tells known.now tables (P.image (P.whole pages.old)) →
-        MatchResult result (AreStats known.now.relations.now tables (question_of query.now)) NotBad }
+        MatchResult result (CountTables known.now.relations.now tables (question_of query.now))
+        NotBad }
     ensures err { IfErr result (ReadCause known.now.laid.now (P.image (P.whole pages.old)) (P.drives (P.whole pages.old)) (P.faults pages.old) (P.faults pages.new)) }
 {
     let mut stats = Vec::new(alloc);
     for var in 0..query.vars.len() as u32 {
-        stats.push(stats_of(alloc, pages, known, query, var)?)?;
+        stats.push(stats_of(alloc, pages, known, table, query, var)?)?;
     }
     Ok(Sequence::from_vec(stats))
 }

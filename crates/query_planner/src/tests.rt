@@ -1,19 +1,22 @@
-ghost use Rattle.std.specs.Prelude.{◌≡◌, ◌<◌, ◌≤◌, [], ◌∷◌, List, IfOk, IfSome, All, false, length, vec_len};
+ghost use Rattle.std.specs.Prelude.{◌≡◌, ◌≤◌, [], ◌∷◌, IfOk, All, length, map, vec_len};
+ghost use Rattle.std.specs.Option.{option_map};
 ghost use Rattle.heap_page.specs.Stores.{HaveRoom};
 ghost use Rattle.rel_meaning.specs.Expression.{expression_of, question_of};
-ghost use Rattle.rel_meaning.specs.Typing.{integer_within, truth_type, type_of};
 ghost use Rattle.rows.specs.declared.plain.Relation.{Relation};
 ghost use Rattle.rows.specs.RowBytes.{IsRowOf, row_bytes};
 ghost use Rattle.table_store.specs.Databases.{AreShort, IsTableOf};
-ghost use Rattle.query_planner.specs.Plans.{MayPlan};
+ghost use Rattle.query_planner.specs.Plans.{relation_columns};
+ghost use Rattle.query_planner.specs.Sample.{above, asked, number_columns, number_layouts, sample, sample_kept};
 ghost use Rattle.query_planner.specs.Stored.{Stands};
 
-use crate::{Planned, plan_queries};
+use crate::{Planned, laid_indexes, plan_queries};
 use heap_page::FetchErr;
+use kept_relations::{Kept, KeptList};
 use lists::Sequence;
 use plan_tree::{Method, Tree, Way};
-use rel_meaning::{CompareOp, Expr, Query, Table, Var};
+use rel_meaning::{CompareOp, Expr, Query, Table, Target, Var};
 use rows::{Catalog, ColType, Column, ColumnList, Interval, Relation, Row, Rows, Text, decode_row};
+use seq_optimizer::VarStats;
 use std::alloc::{AllocError, Global};
 use std::test::Fail;
 use table_store::{Laid, lay_database};
@@ -21,7 +24,7 @@ use xp_outside::{Drive, MemDrive, NumberList};
 
 // The columns of the relation NUM: an integer.
 fn columns(alloc: Global) -> Result<ColumnList, AllocError>
-    ensures { IfOk result (λ columns. columns ≡ record { name = 110 ∷ []; col_type = ColType.Int4; nullable = false } ∷ []) }
+    ensures { IfOk result (λ columns. columns ≡ number_columns) }
 {
     let column = Column {
         name: Text::from_slice(alloc, b"n")?,
@@ -33,7 +36,7 @@ fn columns(alloc: Global) -> Result<ColumnList, AllocError>
 
 // The relation NUM, with an index on its column.
 fn relation(alloc: Global) -> Result<Relation, AllocError>
-    ensures columns { IfOk result (λ relation. relation.columns ≡ record { name = 110 ∷ []; col_type = ColType.Int4; nullable = false } ∷ []) }
+    ensures columns { IfOk result (λ relation. relation.columns ≡ number_columns) }
     ensures index { IfOk result (λ relation. relation.index ≡ Some 0) }
 {
     let columns = columns(alloc)?;
@@ -70,7 +73,8 @@ fn numbers(alloc: Global, columns: &ColumnList) -> Result<Rows, Fail>
 
 // The table of NUM.
 fn table(alloc: Global) -> Result<Table, Fail>
-    ensures { IfOk result (λ table. (relation : Relation) → relation.columns ≡ record { name = 110 ∷ []; col_type = ColType.Int4; nullable = false } ∷ [] → relation.index ≡ Some 0 → IsTableOf relation table) }
+    ensures { IfOk result (λ table. (relation : Relation) → relation.columns ≡ number_columns →
+        relation.index ≡ Some 0 → IsTableOf relation table) }
 {
     let columns = columns(alloc)?;
     let rows = numbers(alloc, &columns)?;
@@ -91,7 +95,7 @@ fn lay<D: Drive + Drop>(alloc: Global, mut drives: Vec<D>) -> Result<Ground<D>, 
     requires { vec_len drives ≡ 1 }
     ensures stands { IfOk result (λ g. Stands g.relations g.rows.items g.laid (vec_len g.drives)) }
     ensures room { IfOk result (λ g. HaveRoom D.Drive g.laid.map g.drives.items) }
-    ensures relations { IfOk result (λ g. length g.relations ≡ 1) }
+    ensures relations { IfOk result (λ g. relation_columns g.relations ≡ number_layouts) }
 {
     let relations = Sequence::from_vec(vec![in alloc; relation(alloc)?]?);
     let table = table(alloc)?;
@@ -118,7 +122,7 @@ fn one_drive(alloc: Global, fails: NumberList) -> Result<Vec<MemDrive>, AllocErr
 
 // `NUM.n > 995`
 fn above(alloc: Global) -> Result<Expr, AllocError>
-    ensures { IfOk result (λ e. type_of (expression_of e) (λ v c. integer_within 2147483648) ≡ Some truth_type) }
+    ensures { IfOk result (λ e. expression_of e ≡ above) }
 {
     Ok(Expr::Compare {
         op: CompareOp::More,
@@ -127,37 +131,67 @@ fn above(alloc: Global) -> Result<Expr, AllocError>
     })
 }
 
-// A query of NUM.
-fn query(alloc: Global, test: Option<Expr>) -> Result<Query, AllocError>
-    requires { IfSome test (λ e. type_of (expression_of e) (λ v c. integer_within 2147483648) ≡ Some truth_type) }
-    ensures { IfOk result (λ q. (relations : List Relation) → 0 < length relations → MayPlan relations (question_of q)) }
+// A query of the first column of a relation.
+fn query(alloc: Global, relation: u32, test: Option<Expr>) -> Result<Query, AllocError>
+    ensures { IfOk result (λ q. question_of q ≡ asked relation (option_map expression_of test)) }
 {
     let var = Var {
-        name: Text::from_slice(alloc, b"NUM")?,
-        relation: 0,
+        name: Text::new(alloc),
+        relation,
+    };
+    let target = Target {
+        name: Text::new(alloc),
+        expr: Expr::Column { var: 0, col: 0 },
     };
     Ok(Query {
         vars: Sequence::from_vec(vec![in alloc; var]?),
-        targets: Sequence::new(alloc),
+        targets: Sequence::from_vec(vec![in alloc; target]?),
         test,
         unique: false,
         keys: Sequence::new(alloc),
     })
 }
 
-// A query with a bound to the indexed column, and one without.
+// A query with a bound to the indexed column, one without, and one of what the first one keeps.
 fn queries(alloc: Global) -> Result<Vec<Query>, AllocError>
-    ensures { IfOk result (λ qs. (relations : List Relation) → 0 < length relations → All (λ q. MayPlan relations (question_of q)) qs.items) }
+    ensures { IfOk result (λ qs. map question_of qs.items ≡ sample) }
 {
-    let bounded = query(alloc, Some(above(alloc)?))?;
-    let plain = query(alloc, None)?;
-    Ok(vec![in alloc; bounded, plain]?)
+    let bounded = query(alloc, 0, Some(above(alloc)?))?;
+    let plain = query(alloc, 0, None)?;
+    let reading = query(alloc, 1, None)?;
+    Ok(vec![in alloc; bounded, plain, reading]?)
 }
 
-fn planned<D: Drive + Drop>(alloc: Global, ground: Ground<D>, queries: &[Query]) -> Planned<D>
+// What the first query keeps.
+fn kept(alloc: Global) -> Result<Kept, AllocError>
+    ensures { IfOk result (λ kept. kept ≡ sample_kept) }
+{
+    let column = Column {
+        name: Text::new(alloc),
+        col_type: ColType::Int4,
+        nullable: true,
+    };
+    Ok(Kept {
+        name: Text::new(alloc),
+        statement: 0,
+        columns: Sequence::from_vec(vec![in alloc; column]?),
+        bounds: Sequence::from_vec(vec![in alloc; 2147483648]?),
+    })
+}
+
+fn kept_list(alloc: Global) -> Result<KeptList, AllocError>
+    ensures { IfOk result (λ list. list ≡ sample_kept ∷ []) }
+{
+    let mut list = KeptList::new(alloc);
+    list.keep(kept(alloc)?)?;
+    Ok(list)
+}
+
+// The plans of the three queries.
+fn planned<D: Drive + Drop>(alloc: Global, ground: Ground<D>) -> Result<Planned<D>, AllocError>
     requires stands { Stands ground.relations ground.rows.items ground.laid (vec_len ground.drives) }
     requires room { HaveRoom D.Drive ground.laid.map ground.drives.items }
-    requires queries { All (λ q. MayPlan ground.relations (question_of q)) queries.now }
+    requires relations { relation_columns ground.relations ≡ number_layouts }
 {
     let Ground {
         relations,
@@ -165,24 +199,40 @@ fn planned<D: Drive + Drop>(alloc: Global, ground: Ground<D>, queries: &[Query])
         laid,
         drives,
     } = ground;
-    plan_queries(
+    let queries = queries(alloc)?;
+    let kept = kept_list(alloc)?;
+    Ok(plan_queries(
         alloc,
         drives,
         &laid,
         &relations,
         &rows,
-        queries,
+        &queries,
+        &kept,
         Method::Hash,
+    ))
+}
+
+fn is_heap_scan(tree: &Tree) -> bool {
+    matches!(
+        tree,
+        Tree::Scan {
+            var: 0,
+            way: Way::Heap,
+            ..
+        }
     )
 }
 
+// The scan of the five entries above 995, that of the whole table, and that of what is kept: a third of
+// the rows, as many as one conjunct is taken to leave.
 #[test]
 fn a_bound_to_an_indexed_column_makes_the_scan_cheap(rt: HostRuntime) -> Result<(), Fail> {
     let alloc = rt.alloc();
     let ground = lay(alloc, one_drive(alloc, Sequence::new(alloc))?)?;
-    let queries = queries(alloc)?;
-    let plans = planned(alloc, ground, &queries).plans?;
-    assert_eq!(rt; plans.len(), 2);
+    let made = planned(alloc, ground)?.plans?;
+    let plans = made.plans;
+    assert_eq!(rt; plans.len(), 3);
     let all = Interval {
         from: 995,
         upto: 1000,
@@ -192,16 +242,28 @@ fn a_bound_to_an_indexed_column_makes_the_scan_cheap(rt: HostRuntime) -> Result<
         matches!(&plans.get(0).tree, Tree::Scan { var: 0, way: Way::Index(found), .. } if *found == all)
     );
     assert_eq!(rt; plans.get(1).cost, 1008);
-    assert!(rt;
-        matches!(
-            &plans.get(1).tree,
-            Tree::Scan {
-                var: 0,
-                way: Way::Heap,
-                ..
-            }
-        )
-    );
+    assert!(rt; is_heap_scan(&plans.get(1).tree));
+    assert_eq!(rt; plans.get(2).cost, 333);
+    assert!(rt; is_heap_scan(&plans.get(2).tree));
+    let kept = VarStats {
+        pages: 0,
+        rows: 333,
+        interval: None,
+        height: 0,
+    };
+    assert_eq!(rt; made.stats.len(), 3);
+    assert_eq!(rt; made.stats.get(2).items(), [kept].as_slice());
+    Ok(())
+}
+
+#[test]
+fn the_index_that_was_laid_is_listed(rt: HostRuntime) -> Result<(), Fail> {
+    let alloc = rt.alloc();
+    let ground = lay(alloc, one_drive(alloc, Sequence::new(alloc))?)?;
+    let indexes = laid_indexes(alloc, &ground.laid)?;
+    assert_eq!(rt; indexes.len(), 1);
+    assert_eq!(rt; indexes.get(0).file, 1);
+    assert_eq!(rt; indexes.get(0).entries, 1000);
     Ok(())
 }
 
@@ -210,8 +272,7 @@ fn a_drive_that_fails_is_named_and_handed_back(rt: HostRuntime) -> Result<(), Fa
     let alloc = rt.alloc();
     let fails = Sequence::from_vec(vec![in alloc; 1]?);
     let ground = lay(alloc, one_drive(alloc, fails)?)?;
-    let queries = queries(alloc)?;
-    let Planned { plans, drives } = planned(alloc, ground, &queries);
+    let Planned { plans, drives } = planned(alloc, ground)?;
     assert!(rt; matches!(plans, Err(error) if error == FetchErr::DriveFault(0)));
     assert_eq!(rt; drives.len(), 1);
     assert_eq!(rt; drives[0].faults(), 1);

@@ -23,7 +23,7 @@ use Rattle.xprs_top.proofs.Asked.{same_columns}
 
 pub kept_fit : (checked : Input) (db : List Table) → AreOver checked db → FitKept (database_columns db) checked.read.kept (map question_of checked.read.queries)
 kept_fit checked db over =
-    subst (λ columns. FitKept columns checked.read.kept (map question_of checked.read.queries)) (same_columns checked.catalog db over.columns) over.serve.fit_kept
+    subst (λ columns. FitKept columns checked.read.kept (map question_of checked.read.queries)) (same_columns checked.catalog db over.columns) over.serve.plan.fits
 
 pub folds_fit : (checked : Input) (db : List Table) → AreOver checked db → FoldQueries (database_columns db) checked.read.kept checked.read.folds (map question_of checked.read.queries)
 folds_fit checked db over =

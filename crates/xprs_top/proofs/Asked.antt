@@ -1,8 +1,10 @@
 -- Queries of a script that passed its checks may be planned, and answered with their folds.
-use Rattle.std.proofs.Common.{◌≡◌, ◌<◌, ◌+◌, ℕ, zero, suc, false, List, [], ◌∷◌, ◌++◌, length, map, take, drop, Option, Some, None, IsSome, IfSome, IsTrue, Ok, All, refl, sym, ap, ap₂, subst, ◌∙◌, arith, append_assoc, length-append}
-use Rattle.std.specs.List.{list_any}
+use Rattle.std.proofs.Common.{All, Bool, IfSome, IsSome, List, None, Ok, Option, Some, [], ap, append_assoc, ap₂, arith, drop, false, flat_map, if◌then◌else◌, is_some, length, length-append, map, nat_lt, refl, subst, suc, sym, take, true, zero, ℕ, ◌&&◌, ◌++◌, ◌+◌, ◌<◌, ◌∙◌, ◌∷◌, ◌≡◌, ◌≤◌}
+use Rattle.std.specs.List.{AllByRecursion, list_any}
+use Rattle.std.specs.Option.{option_or}
 use Rattle.std.proofs.lemmas.List.{length-map, length-take-le}
-use Rattle.std.proofs.lemmas.List.Elements.{All-head, All-tail, All-weaker}
+use Rattle.std.proofs.lemmas.List.Elements.{All-cons, All-from_recursion, All-head, All-nil, All-tail}
+use Rattle.std.proofs.lemmas.Bool.Decides.{nat_tests}
 use Rattle.aggregate_op.specs.declared.fold.Fold.{Fold}
 use Rattle.aggregate_op.specs.declared.fold.FoldOp.{FoldOp}
 use Rattle.aggregate_op.specs.declared.fold.FoldOp.TheVariants.{Count, Min, Max, Sum}
@@ -16,43 +18,81 @@ use Rattle.rows.specs.declared.field.ColType.TheVariants as col
 use Rattle.rows.specs.declared.plain.LayoutColumn.{LayoutColumn}
 use Rattle.rows.specs.declared.plain.Relation.{Relation}
 use Rattle.rows.specs.Layouts as layouts
-use Rattle.rel_meaning.specs.declared.query.Query.{Query}
 use Rattle.rel_meaning.specs.declared.query.Table.{Table}
-use Rattle.rel_meaning.specs.Expression.{Expression, Output, Question, question_of}
+use Rattle.rel_meaning.specs.Expression.{Output, Question}
 use Rattle.rel_meaning.specs.Meaning.{layout_column}
-use Rattle.rel_meaning.specs.Typing.{bound_if, is_truth, type_of}
+use Rattle.rel_meaning.specs.Typing.{bound_if, type_of}
 use Rattle.postquel_tokens.specs.declared.fault.TextErr.{TextErr}
-use Rattle.postquel_tokens.specs.Forms.{Sentence}
-use Rattle.name_check.specs.Faults.{column_type}
+use Rattle.postquel_tokens.specs.declared.fault.What.TheVariants as what
+use Rattle.postquel_tokens.specs.declared.form.IntoForm.{IntoForm}
+use Rattle.postquel_tokens.specs.Forms.{Sentence, Wish}
+use Rattle.rel_meaning.specs.declared.query.Var.{Var}
+use Rattle.name_check.specs.Faults.{column_named}
 use Rattle.name_check.specs.FoldFit.{AreSummed, FitFolds, FitsFold, catalog_columns}
-use Rattle.name_check.specs.Headers.{headers_in}
-use Rattle.name_check.specs.Resolved.{MayAsk, MayAskEach}
-use Rattle.name_check.specs.Sentences.{heading_of, headings_after, is_kept, or_fault, queries_of, questions_in, script_fault}
-use Rattle.name_check.proofs.Answered.{asked}
-use Rattle.query_planner.specs.Plans.{MayPlan}
+use Rattle.name_check.specs.Headers.{headers_in, kept_as, kept_column, kept_from, kept_in, kept_name}
+use Rattle.name_check.specs.Resolved.{MayAskEach}
+use Rattle.name_check.specs.Sentences.{columns_fault, has_fold, head_in, head_of, headings_after, inner_fault, into_fault, or_fault, queries_of, question_in, questions_in, ranges_fault, script_fault, sentence_fault, vars_of, wish_shown, wish_spot, wishes_fault}
+use Rattle.name_check.specs.Types.{at}
+use Rattle.fragments.specs.Premises.{IsKept}
 
--- ---- plans
+-- ---- what may be planned and cut
 
-is_typed : (o : Option LayoutColumn) → IsTrue (is_truth o) → IsSome o
-is_typed None h = absurd cc
-is_typed (Some c) h = refl
+pub few_each : (hs : _) (ss : List Sentence) → MayAskEach hs ss → All (λ (q : Question). length q.vars ≤ 6) (questions_in hs ss)
+few_each hs [] m = All-nil (λ (q : Question). length q.vars ≤ 6)
+few_each hs (s ∷ ss) m =
+    All-cons (λ (q : Question). length q.vars ≤ 6) (question_in hs s) (questions_in (headings_after hs s) ss) m.0.few (few_each (headings_after hs s) ss m.1)
 
-test_typed : (columns : ℕ → ℕ → Option LayoutColumn) (test : Option Expression) → IfSome test (λ t. IsTrue (is_truth (type_of t columns))) → IfSome test (λ t. IsSome (type_of t columns))
-test_typed columns None h = tt
-test_typed columns (Some t) h = is_typed (type_of t columns) h
+abbrev pub HasKeys : Question → Type 0
+HasKeys q = All (λ key. key.column < length q.targets) q.keys
 
--- a query that may be asked of the relations may be planned
-pub planned : (catalog : List Relation) (q : Question) → MayAsk (map heading_of catalog) q → MayPlan catalog q
-planned catalog q m = record {
-  few = m.few;
-  there = subst (λ (n : ℕ). All (λ v. v.relation < n) q.vars) (length-map catalog heading_of) m.relations;
-  test = (column_type (map heading_of catalog) q.vars, test_typed (column_type (map heading_of catalog) q.vars) q.test m.test);
-}
+pub keys_each : (hs : _) (ss : List Sentence) → MayAskEach hs ss → All HasKeys (questions_in hs ss)
+keys_each hs [] m = All-nil HasKeys
+keys_each hs (s ∷ ss) m = All-cons HasKeys (question_in hs s) (questions_in (headings_after hs s) ss) m.0.keys (keys_each (headings_after hs s) ss m.1)
 
-pub all_planned : (catalog : List Relation) (ss : List Sentence) (qs : List Query) → queries_of (map heading_of catalog) ss ≡ Ok (map question_of qs) → MayAskEach (map heading_of catalog) ss → list_any is_kept ss ≡ false →
-    All (λ q. MayPlan catalog (question_of q)) qs
-all_planned catalog ss qs e m none =
-    All-weaker (λ q. MayAsk (map heading_of catalog) (question_of q)) (λ q. MayPlan catalog (question_of q)) (λ q k. planned catalog (question_of q) k) qs (asked catalog ss qs e m none)
+both_none : (a b : Option TextErr) → option_or a b ≡ None → (a ≡ None) × (b ≡ None)
+both_none None b e = (refl, e)
+both_none (Some f) b e = absurd cc
+
+narrow : (twice wide : Bool) (n : ℕ) (first second : TextErr) → nat_lt 32 n ≡ wide → ◌≡◌ {A = Option TextErr} (if twice then Some first else if true && wide then Some second else None) None → n ≤ 32
+narrow true wide n first second f e = absurd cc
+narrow false true n first second f e = absurd cc
+narrow false false n first second f e = grind (arith, nat_tests)
+
+-- the targets of a statement that keeps its answer are at most 32 columns
+narrow_head : (hs : _) (vars : List Var) (before : _) (ws : List Wish) → length before ≤ 32 → wishes_fault hs true vars before ws ≡ None →
+    length (before ++ flat_map (λ w. map head_of (wish_shown hs vars w)) ws) ≤ 32
+narrow_head hs vars before [] few e = let same = length-append before [] in omega (arith, few, same)
+narrow_head hs vars before (w ∷ ws) few e =
+    let new = wish_shown hs vars w in
+    let behind = both_none (inner_fault hs vars w) (option_or (columns_fault true (wish_spot w) before new) (wishes_fault hs true vars (before ++ map head_of new) ws)) e in
+    let here = both_none (columns_fault true (wish_spot w) before new) (wishes_fault hs true vars (before ++ map head_of new) ws) behind.1 in
+    let most : length before + length new ≤ 32 =
+    narrow (list_any (λ s. is_some (column_named before s.name)) new) (nat_lt 32 (length before + length new)) (length before + length new) (at (wish_spot w) what.DoubleTarget) (at (wish_spot w) what.TooManyColumns) refl here.0 in
+    let together = length-append before (map head_of new) in
+    let as_many = length-map new head_of in
+    subst (λ columns. length columns ≤ 32) (append_assoc before (map head_of new) (flat_map (λ w. map head_of (wish_shown hs vars w)) ws))
+    (narrow_head hs vars (before ++ map head_of new) ws (omega (arith, most, together, as_many)) here.1)
+
+kept_narrow : (hs : _) (n : ℕ) (ss : List Sentence) → script_fault hs ss ≡ None → AllByRecursion IsKept (kept_from hs n ss)
+kept_narrow hs n [] e = tt
+kept_narrow hs n (s ∷ ss) e =
+    let parts = both_none (sentence_fault hs s) (script_fault (headings_after hs s) ss) e in
+    let ranges = both_none (into_fault hs (has_fold s) s.kept) _ parts.0 in
+    let wishes = both_none (ranges_fault hs [] s.ranges) _ ranges.1 in
+    let test = both_none (wishes_fault hs (is_some s.kept) (vars_of hs s) [] s.wishes) _ wishes.1 in
+    by s.kept test.0 (kept_narrow (headings_after hs s) (n + 1) ss parts.1) where
+      by : (into : Option IntoForm) → wishes_fault hs (is_some into) (vars_of hs s) [] s.wishes ≡ None → AllByRecursion IsKept (kept_from (headings_after hs s) (n + 1) ss) →
+          AllByRecursion IsKept (kept_as (head_in hs s) n (kept_name into) ++ kept_from (headings_after hs s) (n + 1) ss)
+      by None f others = others
+      by (Some into) f others =
+          let few = narrow_head hs (vars_of hs s) [] s.wishes (omega arith) f in
+          let columns = length-map (head_in hs s) kept_column in
+          let bounds = length-map (head_in hs s) (λ c. c.layout.bound) in
+          (record { narrow = omega (arith, few, columns); each = omega (arith, columns, bounds) }, others)
+
+-- what the statements of a script without a fault keep is narrow
+pub all_narrow : (hs : _) (ss : List Sentence) → script_fault hs ss ≡ None → All IsKept (kept_in hs ss)
+all_narrow hs ss e = All-from_recursion IsKept (kept_in hs ss) (kept_narrow hs 0 ss e)
 
 -- ---- how many there are
 

@@ -1,5 +1,5 @@
 -- What a run shows of a task that was done.
-use Rattle.std.proofs.Common.{◌≡◌, ℕ, List, [], Option, Some, None, Result, Ok, Err, IfErr, inl, inr, sym, subst}
+use Rattle.std.proofs.Common.{◌≡◌, ℕ, List, [], Option, Some, None, Result, Ok, Err, IfErr, sym, subst}
 use Rattle.std.specs.Global.{Vec}
 use Rattle.xp_outside.specs.declared.drive.Drive.{Ghosts}
 use Rattle.xprs_top.specs.declared.status.Status.{Status}
@@ -45,14 +45,14 @@ module _ {D : Type 0} (g : Ghosts D) where
   caused_early o request drives SinkFault shows none same = absurd shows
   caused_early o request drives NoMemory shows none same = same
   caused_early o request drives (DriveFull d needs capacity) shows none same = absurd shows
-  caused_early o request drives (NotBuilt what) shows none same = (inr shows, none, same)
+  caused_early o request drives (NotBuilt what) shows none same = absurd shows
   caused_early o request drives (TooLarge number) shows none same = absurd shows
 
   -- words that ask for nothing
   pub caused_words : (o : Outside) (form : Form) (drives : List D) (status : Status) →
       IsAsked form (Err status) → drives ≡ [] → o.new ≡ o.old → Caused g form o drives status
   caused_words o form drives Usage asked none same = (asked, none, same)
-  caused_words o form drives (NotBuilt what) asked none same = (inl asked, none, same)
+  caused_words o form drives (NotBuilt what) asked none same = (asked, none, same)
   caused_words o form drives NoMemory asked none same = same
   caused_words o form drives Done asked none same = absurd asked
   caused_words o form drives (Refused r) asked none same = absurd asked

@@ -8,7 +8,8 @@ use Rattle.heap_page.specs.Stores.{AreQuiet, fetch_fault, store_fault}
 use Rattle.heap_page.proofs.Found.{get_below, there}
 use Rattle.xp_outside.specs.declared.drive.Drive.{Ghosts}
 use Rattle.xp_outside.specs.Drives.{IsFresh}
-use Rattle.plan_tree.specs.declared.tree.Plan.{Plan}
+use Rattle.query_planner.specs.declared.planning.PlansAndStats.{PlansAndStats}
+use Rattle.table_store.specs.declared.database.Laid.{Laid}
 use Rattle.rel_meaning.specs.declared.query.Table.{Table}
 use Rattle.rows.specs.declared.plain.Machine.{Machine}
 use Rattle.std.specs.Global.{Vec}
@@ -48,21 +49,21 @@ named_answers checked db (Err (DriveFull d needs capacity)) is = absurd is
 named_answers checked db (Err (NotBuilt what)) is = absurd is
 
 -- a text of plans names the drive whose read has failed
-pub named_plans : (machine : Machine) (plans : Result (List Plan) FetchErr) (text : Result (Vec ℕ) Status) → Explains machine plans text → failed_drive text ≡ fetch_fault plans
-named_plans machine (Ok ps) (Ok text) shows = refl
-named_plans machine (Ok ps) (Err NoMemory) shows = refl
-named_plans machine (Ok ps) (Err Done) shows = absurd shows
-named_plans machine (Ok ps) (Err Usage) shows = absurd shows
-named_plans machine (Ok ps) (Err (Refused r)) shows = absurd shows
-named_plans machine (Ok ps) (Err ShelfFault) shows = absurd shows
-named_plans machine (Ok ps) (Err (DriveFault d)) shows = absurd shows
-named_plans machine (Ok ps) (Err (Bad bad)) shows = absurd shows
-named_plans machine (Ok ps) (Err SinkFault) shows = absurd shows
-named_plans machine (Ok ps) (Err (DriveFull d needs capacity)) shows = absurd shows
-named_plans machine (Ok ps) (Err (NotBuilt what)) shows = absurd shows
-named_plans machine (Ok ps) (Err (TooLarge number)) shows = absurd shows
-named_plans machine (Err e) text shows = ap failed_drive shows ∙ named_fetch e ∙ same e where
-  same : (e : FetchErr) → fetch_fault {T = ℕ} (Err e) ≡ fetch_fault {T = List Plan} (Err e)
+pub named_plans : (checked : Checked) (laid : Laid) (machine : Machine) (plans : Result PlansAndStats FetchErr) (text : Result (Vec ℕ) Status) → Explains checked laid machine plans text → failed_drive text ≡ fetch_fault plans
+named_plans checked laid machine (Ok ps) (Ok text) shows = refl
+named_plans checked laid machine (Ok ps) (Err NoMemory) shows = refl
+named_plans checked laid machine (Ok ps) (Err Done) shows = absurd shows
+named_plans checked laid machine (Ok ps) (Err Usage) shows = absurd shows
+named_plans checked laid machine (Ok ps) (Err (Refused r)) shows = absurd shows
+named_plans checked laid machine (Ok ps) (Err ShelfFault) shows = absurd shows
+named_plans checked laid machine (Ok ps) (Err (DriveFault d)) shows = absurd shows
+named_plans checked laid machine (Ok ps) (Err (Bad bad)) shows = absurd shows
+named_plans checked laid machine (Ok ps) (Err SinkFault) shows = absurd shows
+named_plans checked laid machine (Ok ps) (Err (DriveFull d needs capacity)) shows = absurd shows
+named_plans checked laid machine (Ok ps) (Err (NotBuilt what)) shows = absurd shows
+named_plans checked laid machine (Ok ps) (Err (TooLarge number)) shows = absurd shows
+named_plans checked laid machine (Err e) text shows = ap failed_drive shows ∙ named_fetch e ∙ same e where
+  same : (e : FetchErr) → fetch_fault {T = ℕ} (Err e) ≡ fetch_fault {T = PlansAndStats} (Err e)
   same (fetch.DriveFault d) = refl
   same (fetch.BadPage bad) = refl
   same fetch.NoMemory = refl

@@ -1,6 +1,6 @@
 -- Plans over tables that are laid on drives.
 use Rattle.std.proofs.Common.{◌≡◌, ◌≤◌, ◌<◌, ℕ, zero, suc, ◌+◌, List, [], ◌∷◌, length, map, get_or, Option, None, Some, Result, Ok, Err, refl, sym, ap, ◌∙◌, subst, arith, IfErr, IfOk}
-use Rattle.std.specs.Prelude.{slice_get, All, IsSome}
+use Rattle.std.specs.Prelude.{slice_get, All, IfSome, IsSome}
 use Rattle.std.specs.Global.{Vec}
 use Rattle.xp_outside.specs.declared.drive.Drive.{Ghosts}
 use Rattle.heap_page.specs.declared.errors.BadPage.{BadPage}
@@ -13,6 +13,9 @@ use Rattle.rows.specs.declared.plain.KeyIndex.{KeyIndex}
 use Rattle.rows.specs.declared.plain.Machine.{Machine}
 use Rattle.rows.specs.declared.plain.Relation.{Relation}
 use Rattle.rel_meaning.specs.declared.query.Table.{Table}
+use Rattle.rel_meaning.specs.Expression.{question_of}
+use Rattle.std.proofs.lemmas.List.{length-map}
+use Rattle.xprs_top.specs.declared.script.ReadScript.{ReadScript}
 use Rattle.table_store.specs.declared.database.Laid.{Laid}
 use Rattle.table_store.specs.declared.files.StoredIndex.{StoredIndex}
 use Rattle.table_store.specs.declared.files.StoredTable.{StoredTable}
@@ -22,11 +25,11 @@ use Rattle.table_store.specs.Images.{HoldImage}
 use Rattle.table_store.specs.Readings.{AllTell}
 use Rattle.table_store.proofs.Laying.{kept_reading}
 use Rattle.plan_tree.specs.declared.tree.Method.{Method}
-use Rattle.plan_tree.specs.declared.tree.Plan.{Plan}
+use Rattle.query_planner.specs.declared.planning.PlansAndStats.{PlansAndStats}
 use Rattle.plan_tree.specs.Views.{planned_of}
 use Rattle.query_planner.specs.Causes.{PlanCause}
 use Rattle.query_planner.specs.Stored.{AreOf, Stands}
-use Rattle.query_planner.specs.Plans.{AreBestPlans}
+use Rattle.query_planner.specs.Plans.{AreBestPlans, MayCutPlans}
 use Rattle.query_planner.proofs.Stored.{are_of}
 use Rattle.xprs_top.specs.declared.status.Status.{Status}
 use Rattle.xprs_top.specs.declared.status.Status.TheVariants.{Done, Usage, Refused, ShelfFault, DriveFault, Bad, SinkFault, NoMemory, DriveFull, NotBuilt, TooLarge}
@@ -34,7 +37,8 @@ use Rattle.xprs_top.specs.declared.goal.Goal.TheVariants.{Plans}
 use Rattle.xprs_top.specs.Devices.{Fit, Makes}
 use Rattle.xprs_top.specs.Readings.{Checked, over}
 use Rattle.xprs_top.specs.Statuses.{of_fetch}
-use Rattle.xprs_top.specs.Texts.{Explains}
+use Rattle.xprs_top.specs.Tasks.{MayServe}
+use Rattle.xprs_top.specs.Texts.{Explains, kept_by}
 use Rattle.xprs_top.proofs.Devices.{image_read, is_fit, tell_before, untold}
 
 -- ---- what is counted
@@ -49,6 +53,31 @@ here (x ∷ xs) (suc i) d lt = here xs i d (omega (arith, lt))
 pub few_rows : (relations : List Relation) (db : List Table) → MayStore relations db → All (λ t. length t.rows ≤ 1000000) db
 few_rows relations db may = λ k d lt.
     let relation = there relations k (omega (arith, lt, may.count)) in (may.each k relation.0 (get_or db k d) relation.1 (here db k d lt)).short.0
+
+-- the relations of tables that can be stored are narrow, and their indexes are on columns of theirs
+pub narrow_relations : (relations : List Relation) (db : List Table) → MayStore relations db → All (λ (r : Relation). length r.columns ≤ 32) relations
+narrow_relations relations db may = λ k d lt.
+    let table = there db k (omega (arith, lt, may.count)) in
+    let one = may.each k (get_or relations k d) table.0 (here relations k d lt) table.1 in
+    let same = ap length one.columns in
+    omega (arith, one.few, same)
+
+pub indexed_relations : (relations : List Relation) (db : List Table) → MayStore relations db → All (λ (r : Relation). IfSome r.index (λ column. column < length r.columns)) relations
+indexed_relations relations db may = λ k d lt.
+    let table = there db k (omega (arith, lt, may.count)) in (may.each k (get_or relations k d) table.0 (here relations k d lt) table.1).index
+
+-- the plans of a script that was read may be cut
+pub may_cut : (relations : List Relation) (db : List Table) (read : ReadScript) → MayStore relations db → MayServe relations read → MayCutPlans relations read.kept (map question_of read.queries)
+may_cut relations db read may serve =
+    let same = length-map read.queries question_of in
+    let few = serve.few in
+    record {
+      few = omega (arith, same, few);
+      narrow = narrow_relations relations db may;
+      indexed = indexed_relations relations db may;
+      bounds = serve.bounds;
+      keys = serve.keys;
+    }
 
 -- the numbers of an index are those of one that is stored, of this file
 numbered : (file pages : ℕ) (stored : Option StoredIndex) (index : KeyIndex) → Some index ≡ numbers_in file pages stored → IsSome stored × (index.file ≡ file)
@@ -73,10 +102,11 @@ module _ {D : Type 0} (g : Ghosts D) where
     all_mids all = tell_before g mids news (kept_reading g mids news read) all
 
     -- which plans are made over told drives
-    abbrev pub Planned : Result (List Plan) FetchErr → Type 0
-    Planned plans = (tables : List StoredTable) → AreOf checked.catalog rows laid machine.drives tables → HoldImage g laid.map tables mids → AllTell g mids → IfOk plans (λ ps. AreBestPlans checked.catalog tables m checked.questions (map planned_of ps))
+    abbrev pub Planned : Result PlansAndStats FetchErr → Type 0
+    Planned plans = (tables : List StoredTable) → AreOf checked.catalog rows laid machine.drives tables → HoldImage g laid.map tables mids → AllTell g mids →
+        IfOk plans (λ made. AreBestPlans checked.catalog tables (kept_by checked) m checked.questions made.stats (map planned_of made.plans))
 
-    abbrev pub NeverBad : Result (List Plan) FetchErr → Type 0
+    abbrev pub NeverBad : Result PlansAndStats FetchErr → Type 0
     NeverBad plans = (tables : List StoredTable) (bad : BadPage) → AreOf checked.catalog rows laid machine.drives tables → HoldImage g laid.map tables mids → AllTell g mids → plans ≡ Err (fetch.BadPage bad) → ⊥
 
     abbrev fit : Fit g checked.catalog db machine.drives news
@@ -102,10 +132,19 @@ module _ {D : Type 0} (g : Ghosts D) where
         )
     made_err fetch.NoMemory cause never = tt
 
-    pub made_plans : (plans : Result (List Plan) FetchErr) (text : Result (Vec ℕ) Status) → Planned plans → NeverBad plans → IfErr plans (PlanCause g laid mids news) → Explains machine plans text → Makes g (over (Plans m) machine checked db) before now news text
+    pub made_plans : (plans : Result PlansAndStats FetchErr) (text : Result (Vec ℕ) Status) → Planned plans → NeverBad plans → IfErr plans (PlanCause g laid mids news) → Explains checked laid machine plans text → Makes g (over (Plans m) machine checked db) before now news text
     made_plans (Ok ps) (Ok text) told never cause shows = (
       (fit, image_read g laid.map out.tables mids news read (out.image fresh)),
-      λ all. record { tables = out.tables; stored = out.stored; plans = map planned_of ps; best = told out.tables are (out.image fresh) (all_mids all); is = shows },
+      λ all. record {
+        tables = out.tables;
+        stored = out.stored;
+        laid = laid;
+        are_laid = rw (← count) out.are;
+        stats = ps.stats;
+        plans = map planned_of ps.plans;
+        best = told out.tables are (out.image fresh) (all_mids all);
+        is = shows;
+      },
     )
     made_plans (Ok ps) (Err NoMemory) told never cause shows = tt
     made_plans (Ok ps) (Err Done) told never cause shows = absurd shows

@@ -9,6 +9,7 @@ pub mod Devices
 pub mod Few
 pub mod Asked
 pub mod Answered
+pub mod Fragmented
 pub mod Explained
 pub mod Caused
 pub mod OneJob

@@ -1,5 +1,5 @@
 -- Told files that give a job are answered, and so is a fault of theirs.
-use Rattle.std.proofs.Common.{◌≡◌, ℕ, List, true≢false, Option, Some, None, Ok, Err, Result, inl, inr, sym, subst, ◌∙◌, arith}
+use Rattle.std.proofs.Common.{◌≡◌, ℕ, List, true≢false, Option, Some, None, Ok, Err, Result, sym, subst, ◌∙◌, arith}
 use Rattle.std.specs.Prelude.{is_some, IsTrue}
 use Rattle.xp_outside.specs.declared.drive.Drive.{Ghosts}
 use Rattle.table_store.specs.Readings.{AllTell}
@@ -58,11 +58,7 @@ module _ {D : Type 0} (g : Ghosts D) where
   refused form o drives NoMemory h request files fault e f k = tt
   refused form o drives (DriveFull d needs capacity) h request files fault e f k = absurd (not_asked fault h.0 (asks_is o.files form h.0 request files (Err fault) e f k h.1))
   refused form o drives (TooLarge number) h request files fault e f k = absurd (not_asked fault h.0 (asks_is o.files form h.0 request files (Err fault) e f k h.1))
-  refused form o drives (NotBuilt what) h request files fault e f k = elim h.0 [
-    | inl words ↦ absurd (unasked request (NotBuilt what) (sym e ∙ words))
-    | inr shows ↦ same_fault fault (NotBuilt what)
-        (faulty_is o.files form (NotBuilt what) request files (Err fault) e f k shows.1)
-  ]
+  refused form o drives (NotBuilt what) h request files fault e f k = absurd (unasked request (NotBuilt what) (sym e ∙ h.0))
 
   not_untold : (drives : List D) → AllTell g drives → IsUntold g drives → ⊥
   not_untold drives all u = true≢false (sym (subst (λ (p : Option (List (List ℕ))). IsTrue (is_some p)) u.untold (all u.number u.drive u.here)))
@@ -93,8 +89,4 @@ module _ {D : Type 0} (g : Ghosts D) where
       not_full job d needs capacity drives roomy (subst (λ (j : Job). Exceeds g j d needs capacity drives) (same_job job h.0 (asks_is o.files form h.0 request files (Ok job) e f k h.1)) h.2)
   completed form o drives (TooLarge number) h request files job e f k all none roomy small s r w =
       small number (subst (λ (j : Job). IsTooLarge j number) (same_job job h.0 (asks_is o.files form h.0 request files (Ok job) e f k h.1)) (h.3 all))
-  completed form o drives (NotBuilt what) h request files job e f k all none roomy small s r w = elim h.0 [
-    | inl words ↦ unasked request (NotBuilt what) (sym e ∙ words)
-    | inr shows ↦ no_fault job (NotBuilt what)
-        (faulty_is o.files form (NotBuilt what) request files (Ok job) e f k shows.1)
-  ]
+  completed form o drives (NotBuilt what) h request files job e f k all none roomy small s r w = unasked request (NotBuilt what) (sym e ∙ h.0)

@@ -32,7 +32,7 @@ module _ {A B X : Type 0} (first : Files → Result A Status → Type 0) (next :
   found_in told before now (Err NoMemory) h f = tt
   found_in told before now (Err (DriveFull d needs capacity)) h f = absurd f
   found_in told before now (Err (TooLarge number)) h f = absurd f
-  found_in told before now (Err (NotBuilt what)) h f = (f.0, there told (Err (NotBuilt what)) h f.1)
+  found_in told before now (Err (NotBuilt what)) h f = absurd f
 
 one_item_more : (xs : List Relation) (i : ℕ) (d : Relation) → i < length xs → take (i + 1) xs ≡ take i xs ++ get_or xs i d ∷ []
 one_item_more xs i d h = let k : i + 1 ≡ suc i = omega arith in rw k (take-suc xs i d h)
@@ -56,10 +56,7 @@ stopped told then same before mid now le xs i d h ts read SinkFault shows = show
 stopped told then same before mid now le xs i d h ts read NoMemory shows = tt
 stopped told then same before mid now le xs i d h ts read (DriveFull number needs capacity) shows = absurd shows
 stopped told then same before mid now le xs i d h ts read (TooLarge number) shows = absurd shows
-stopped told then same before mid now le xs i d h ts read (NotBuilt what) shows = (shows.0, by told read (subst (λ t. OnFiles t (λ files. Just (table_of files (get_or xs i d)) (Err (NotBuilt what)))) same shows.1)) where
-  by : (t : Option Files) → OnFiles t (λ files. tables_of files (take i xs) ≡ Ok ts) → OnFiles t (λ files. Just (table_of files (get_or xs i d)) (Err (NotBuilt what))) → OnFiles t (λ files. Just (tables_of files xs) (Err (NotBuilt what)))
-  by None k e = tt
-  by (Some files) k e = ap (tables_of files) (sym (split xs i d h)) ∙ faulty files (take i xs) (drop (i + 1) xs) (get_or xs i d) ts (NotBuilt what) k e
+stopped told then same before mid now le xs i d h ts read (NotBuilt what) shows = absurd shows
 
 -- a table that is read, behind tables that are
 pub more_told : (told then : Option Files) → then ≡ told → (xs : List Relation) (i : ℕ) (d : Relation) → i < length xs → (ts news : List Table) (rows : List (List Value)) →
@@ -110,7 +107,7 @@ module _ {A B X : Type 0} (first : Files → Result A Status → Type 0) (next :
   then_told told then same before mid now le (Err NoMemory) h f = tt
   then_told told then same before mid now le (Err (DriveFull d needs capacity)) h f = absurd f
   then_told told then same before mid now le (Err (TooLarge number)) h f = absurd f
-  then_told told then same before mid now le (Err (NotBuilt what)) h f = (f.0, both told (Err (NotBuilt what)) h (subst (λ t. OnFiles t (λ files. next x files (Err (NotBuilt what)))) same f.1))
+  then_told told then same before mid now le (Err (NotBuilt what)) h f = absurd f
 
 -- what is found of a first reading, where that is a function
 pub bound_told : {A B X : Type 0} (first : Files → Result A Status) (next : A → Result B Status) (x : A) (view : X → B) (told : Option Files) (before now : ℕ) (result : Result X Status) →
@@ -132,4 +129,4 @@ bound_told {A} {B} {X} first next x view told before now result h f = by told re
   by t (Err NoMemory) h f = tt
   by t (Err (DriveFull d needs capacity)) h f = absurd f
   by t (Err (TooLarge number)) h f = absurd f
-  by t (Err (NotBuilt what)) h f = (f.0, there t (Err (NotBuilt what)) h f.1)
+  by t (Err (NotBuilt what)) h f = absurd f

@@ -75,7 +75,6 @@ abbrev pub unbuilt_name : Unbuilt → List ℕ
 unbuilt_name unbuilt.Run = codes "run is"
 unbuilt_name unbuilt.Generation = codes "gen is"
 unbuilt_name unbuilt.Trace = codes "--trace is"
-unbuilt_name unbuilt.Folds = codes "plans of folds and into are"
 
 abbrev pub fault_line : Status → List ℕ
 fault_line Done = []

@@ -10,7 +10,6 @@ use Rattle.catalog_load.specs.declared.fault.LoadErr.TheVariants as load_err
 use Rattle.xp_outside.specs.Outside.{Rose}
 use Rattle.xprs_top.specs.declared.status.Status.{Status}
 use Rattle.xprs_top.specs.declared.status.Status.TheVariants.{Done, Usage, Refused, ShelfFault, DriveFault, Bad, SinkFault, NoMemory, DriveFull, NotBuilt, TooLarge}
-use Rattle.xprs_top.specs.declared.status.Unbuilt.TheVariants.{Folds}
 use Rattle.xprs_top.specs.declared.status.Refused.TheVariants.{Missing, TooLong, Script, Table}
 use Rattle.xprs_top.specs.declared.script.ReadScript.{ReadScript}
 use Rattle.xprs_top.specs.declared.input.Checked.{Checked as Input}
@@ -47,7 +46,7 @@ Shows told before now (Bad bad) read = ⊥
 Shows told before now SinkFault read = ⊥
 Shows told before now NoMemory read = Unit {0}
 Shows told before now (DriveFull d needs capacity) read = ⊥
-Shows told before now (NotBuilt what) read = (what ≡ Folds) × OnFiles told (λ files. read files (Err (NotBuilt what)))
+Shows told before now (NotBuilt what) read = ⊥
 Shows told before now (TooLarge statement) read = ⊥
 
 -- what was read is what the files are read as
@@ -66,7 +65,7 @@ Refuses (Bad bad) read = ⊥
 Refuses SinkFault read = ⊥
 Refuses NoMemory read = Unit {0}
 Refuses (DriveFull d needs capacity) read = ⊥
-Refuses (NotBuilt what) read = (what ≡ Folds) × read (Err (NotBuilt what))
+Refuses (NotBuilt what) read = ⊥
 Refuses (TooLarge statement) read = ⊥
 
 -- what was found is what is read

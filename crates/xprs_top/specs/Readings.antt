@@ -1,6 +1,5 @@
 -- What files are read as: a value or a fault.
-use Rattle.std.specs.Prelude.{◌≡◌, ◌⊎◌, ℕ, Bool, false, ◌||◌, List, [], ◌∷◌, map, length, nat_le, if◌then◌else◌, Option, Some, None, Result, Ok, Err}
-use Rattle.std.specs.List.{list_any}
+use Rattle.std.specs.Prelude.{◌≡◌, ◌⊎◌, ℕ, List, [], ◌∷◌, map, length, nat_le, if◌then◌else◌, Option, Some, None, Result, Ok, Err}
 use Rattle.rows.specs.declared.plain.Machine.{Machine}
 use Rattle.rows.specs.declared.plain.Relation.{Relation}
 use Rattle.rows.specs.declared.plain.Step.{Step}
@@ -21,16 +20,14 @@ use Rattle.catalog_load.specs.Tables.{rows_of}
 use Rattle.catalog_load.specs.declared.fault.LoadErr.{LoadErr}
 use Rattle.catalog_load.specs.declared.fault.LoadErr.TheVariants as load_err
 use Rattle.name_check.specs.Machine.{machine_steps}
-use Rattle.name_check.specs.Sentences.{has_fold, heading_of, is_kept, queries_of}
+use Rattle.name_check.specs.Sentences.{heading_of, queries_of}
 use Rattle.xp_outside.specs.Outside.{file_at}
 use Rattle.xprs_top.specs.declared.status.Status.{Status}
-use Rattle.xprs_top.specs.declared.status.Status.TheVariants.{Refused, NotBuilt, NoMemory}
+use Rattle.xprs_top.specs.declared.status.Status.TheVariants.{Refused, NoMemory}
 use Rattle.xprs_top.specs.declared.status.Refused.TheVariants.{Missing, TooLong, Script, Table as TableFault}
-use Rattle.xprs_top.specs.declared.status.Unbuilt.TheVariants.{Folds}
 use Rattle.xprs_top.specs.declared.goal.Aim.{Aim}
 use Rattle.xprs_top.specs.declared.goal.Aim.TheVariants.{Print, Make}
 use Rattle.xprs_top.specs.declared.goal.Goal.{Goal}
-use Rattle.xprs_top.specs.declared.goal.Goal.TheVariants.{Answers, Plans}
 use Rattle.xprs_top.specs.Requests.{Request}
 
 abbrev pub Files : Type 0
@@ -116,23 +113,15 @@ tables_of files [] = Ok []
 tables_of files (relation ∷ relations) =
     bind (table_of files relation) (λ rows. bind (tables_of files relations) (λ tables. Ok (record { columns = relation.columns; rows = rows } ∷ tables)))
 
--- plans of a script aren't built where a statement has a fold or keeps its answer
-abbrev pub is_unbuilt : Goal → Program → Bool
-is_unbuilt Answers program = false
-is_unbuilt (Plans m) program = list_any has_fold program.sentences || list_any is_kept program.sentences
-
 -- What a run is to do: write this text, or make what is asked for of the questions of a script and the tables of its catalogue, by
 -- a machine.
 pub data Job : Type 0 where
   write : List ℕ → Job
   over : Goal → Machine → Checked → List Table → Job
 
-abbrev pub over_tables : Goal → Machine → Checked → List Table → Result Job Status
-over_tables goal machine checked db = if is_unbuilt goal checked.program then Err (NotBuilt Folds) else Ok (over goal machine checked db)
-
 abbrev pub job_by : Files → Aim → Checked → Result Job Status
 job_by files Print checked = Ok (write (script_text checked.program))
-job_by files (Make goal machine) checked = bind (tables_of files checked.catalog) (over_tables goal machine checked)
+job_by files (Make goal machine) checked = bind (tables_of files checked.catalog) (λ db. Ok (over goal machine checked db))
 
 -- The job that is asked for: to write the script as it prints, or to answer it or show its plans, for both of which all tables are
 -- read.

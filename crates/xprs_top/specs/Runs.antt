@@ -11,8 +11,6 @@ use Rattle.xprs_top.specs.declared.goal.Aim.{Aim}
 use Rattle.xprs_top.specs.declared.goal.Aim.TheVariants.{Print, Make}
 use Rattle.xprs_top.specs.declared.status.Status.{Status}
 use Rattle.xprs_top.specs.declared.status.Status.TheVariants.{Done, Usage, Refused, ShelfFault, DriveFault, Bad, SinkFault, NoMemory, DriveFull, NotBuilt, TooLarge}
-use Rattle.xprs_top.specs.declared.status.Unbuilt.{Unbuilt}
-use Rattle.xprs_top.specs.declared.status.Unbuilt.TheVariants.{Folds}
 use Rattle.xprs_top.specs.Devices.{Exceeds, Fits, HasFailed, Holds, IsRoomy, NoneFailed, NoneOrAll, ReadsBad}
 use Rattle.xprs_top.specs.Faults.{fault_line}
 use Rattle.xprs_top.specs.Inputs.{OnFiles}
@@ -29,11 +27,6 @@ Asks told (Ok request) job = OnFiles told (λ files. IsJob files request (Ok job
 abbrev pub Faulty : Option Files → Form → Status → Type 0
 Faulty told (Err other) status = ⊥
 Faulty told (Ok request) status = OnFiles told (λ files. IsJob files request (Err status))
-
--- the words alone ask for what isn't built, or the files have folds
-abbrev pub IsUnbuilt : Option Files → Form → Unbuilt → Type 0
-IsUnbuilt told form what =
-    (form ≡ Err (NotBuilt what)) ⊎ ((what ≡ Folds) × Faulty told form (NotBuilt what))
 
 -- what can be seen of a run from outside: the files that the shelf tells, the counts of faults of the shelf, of the rack
 -- and of the output before and after, and what the output had got before and after
@@ -133,7 +126,7 @@ module _ {D : Type 0} (g : Ghosts D) where
   Caused form o drives SinkFault = (job : Job) × Rose o.out_before o.out_now × Asks o.files form job × Holds g job drives × (AllTell g drives → (text : List ℕ) × IsText job text × AppendsFront o.old o.new text)
   Caused form o drives NoMemory = o.new ≡ o.old
   Caused form o drives (DriveFull d needs capacity) = (job : Job) × Asks o.files form job × Exceeds g job d needs capacity drives × (o.new ≡ o.old)
-  Caused form o drives (NotBuilt what) = IsUnbuilt o.files form what × (drives ≡ []) × (o.new ≡ o.old)
+  Caused form o drives (NotBuilt what) = (form ≡ Err (NotBuilt what)) × (drives ≡ []) × (o.new ≡ o.old)
   Caused form o drives (TooLarge number) = (job : Job) × Asks o.files form job × Holds g job drives × (AllTell g drives → IsTooLarge job number) × (o.new ≡ o.old)
 
   -- over told files that give a job none of whose statements is too large, drives that all tell, none of which has failed and each with

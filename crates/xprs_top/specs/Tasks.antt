@@ -1,23 +1,19 @@
 -- What is known of a task before it is done.
-use Rattle.std.specs.Prelude.{◌≡◌, ℕ, ◌<◌, ◌≤◌, false, List, All, IfSome, length, map, ⊤}
-use Rattle.std.specs.List.{list_any}
+use Rattle.std.specs.Prelude.{◌≡◌, ℕ, ◌<◌, ◌≤◌, List, All, IfSome, length, map, ⊤}
 use Rattle.rows.specs.declared.plain.Relation.{Relation}
 use Rattle.rel_meaning.specs.declared.query.Table.{Table}
-use Rattle.rel_meaning.specs.Expression.{question_of}
+use Rattle.rel_meaning.specs.Expression.{Question, question_of}
 use Rattle.kept_answers.specs.FoldedAnswers.{FoldQueries}
-use Rattle.kept_relations.specs.Fitting.{FitKept}
+use Rattle.fragments.specs.Premises.{IsKept}
 use Rattle.name_check.specs.FoldFit.{catalog_columns}
 use Rattle.name_check.specs.Folds.{plans_of}
 use Rattle.name_check.specs.Headers.{headers_of, kept_of}
-use Rattle.name_check.specs.Sentences.{is_kept}
 use Rattle.postquel.specs.Program.{program_of}
 use Rattle.table_store.specs.Databases.{MayStore}
 use Rattle.query_planner.specs.Plans.{MayPlan}
 use Rattle.xprs_top.specs.declared.input.Checked.{Checked as Input}
 use Rattle.xprs_top.specs.declared.goal.Aim.TheVariants.{Make}
-use Rattle.xprs_top.specs.declared.goal.Goal.{Goal}
 use Rattle.xprs_top.specs.declared.script.ReadScript.{ReadScript}
-use Rattle.xprs_top.specs.Readings.{is_unbuilt}
 use Rattle.xprs_top.specs.declared.task.Task.{Task}
 use Rattle.xprs_top.specs.declared.task.Task.TheVariants.{Print, Over}
 use Rattle.xprs_top.specs.Requests.{HasMachine}
@@ -27,28 +23,28 @@ abbrev pub HasIndexColumn : Relation → Type 0
 HasIndexColumn relation = IfSome relation.index (λ column. column < length relation.columns)
 
 -- What was read of a script over a catalogue: its headers, its kept relations and its folds are those
--- of its statements and fit its queries, of which there are at most 16. Where no statement keeps its
--- answer, each query may be planned.
+-- of its statements and fit its queries. The queries, at most 16, may be planned, and their plans may be
+-- cut: their keys are among their targets, and what is kept has at most 32 columns.
 pub record MayServe (catalog : List Relation) (read : ReadScript) : Type 0 where
   pub headers : read.headers ≡ headers_of catalog (program_of read.script).sentences
   pub kept : read.kept ≡ kept_of catalog (program_of read.script).sentences
   pub folds : read.folds ≡ plans_of catalog (program_of read.script).sentences
-  pub fit_kept : FitKept (catalog_columns catalog) read.kept (map question_of read.queries)
+  pub plan : MayPlan catalog read.kept (map question_of read.queries)
   pub fit_folds : FoldQueries (catalog_columns catalog) read.kept read.folds (map question_of read.queries)
   pub many : length read.headers ≡ length read.queries
   pub few : length read.queries ≤ 16
-  pub planned : list_any is_kept (program_of read.script).sentences ≡ false → All (λ q. MayPlan catalog (question_of q)) read.queries
+  pub bounds : All IsKept read.kept
+  pub keys : All (λ (q : Question). All (λ key. key.column < length q.targets) q.keys) (map question_of read.queries)
 
 -- what was read of a script serves tables of the columns of the catalogue
 pub record AreOver (checked : Input) (db : List Table) : Type 0 where
   pub serve : MayServe checked.catalog checked.read
   pub columns : map (λ (t : Table). t.columns) db ≡ map (λ (r : Relation). r.columns) checked.catalog
 
--- the tables can be stored, and what is asked for is built
-pub record IsAnswerable (goal : Goal) (checked : Input) (db : List Table) : Type 0 where
+-- the tables can be stored, and the script serves them
+pub record IsAnswerable (checked : Input) (db : List Table) : Type 0 where
   pub stored : MayStore checked.catalog db
   pub serve : MayServe checked.catalog checked.read
-  pub built : is_unbuilt goal (program_of checked.read.script) ≡ false
 
 -- how many drives are mounted for a task
 abbrev pub task_drives : Task → ℕ
@@ -57,7 +53,7 @@ task_drives (Over goal machine checked db) = machine.drives
 
 abbrev pub IsReady : Task → Type 0
 IsReady (Print text) = ⊤
-IsReady (Over goal machine checked db) = HasMachine (Make goal machine) × IsAnswerable goal checked db
+IsReady (Over goal machine checked db) = HasMachine (Make goal machine) × IsAnswerable checked db
 
 abbrev pub IsPrint : Task → Type 0
 IsPrint (Print text) = ⊤

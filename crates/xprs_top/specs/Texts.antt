@@ -1,5 +1,5 @@
 -- The text of a job.
-use Rattle.std.specs.Prelude.{◌≡◌, ◌+◌, ℕ, List, [], map, Option, Some, Result, Ok, Err, ⊤}
+use Rattle.std.specs.Prelude.{◌≡◌, ◌+◌, ℕ, List, map, Option, Some, Result, Ok, Err, ⊤}
 use Rattle.std.specs.Global.{Vec}
 use Rattle.aggregate_op.specs.declared.fold.FoldPlan.{FoldPlan}
 use Rattle.heap_page.specs.declared.errors.FetchErr.{FetchErr}
@@ -10,13 +10,20 @@ use Rattle.name_check.specs.Headers.{headers_of, kept_of}
 use Rattle.rows.specs.declared.plain.Machine.{Machine}
 use Rattle.rows.specs.declared.value.Value.{Value}
 use Rattle.rel_meaning.specs.declared.query.Table.{Table}
+use Rattle.table_store.specs.declared.database.Laid.{Laid}
 use Rattle.table_store.specs.declared.files.StoredTable.{StoredTable}
-use Rattle.table_store.specs.Databases.{AreStored}
+use Rattle.table_store.specs.Databases.{AreStored, IsLaid}
 use Rattle.plan_tree.specs.declared.tree.Method.{Method}
 use Rattle.plan_tree.specs.Explained.{explained}
-use Rattle.plan_tree.specs.declared.tree.Plan.{Plan}
+use Rattle.plan_tree.specs.Pieces.{Piece}
 use Rattle.plan_tree.specs.Views.{Planned, planned_of}
+use Rattle.query_planner.specs.declared.planning.PlansAndStats.{PlansAndStats}
 use Rattle.query_planner.specs.Plans.{AreBestPlans}
+use Rattle.query_planner.specs.Stored.{laid_indexes}
+use Rattle.fragments.specs.Folds.{folded}
+use Rattle.fragments.specs.Homes.{Known, files_known}
+use Rattle.fragments.specs.Scripts.{cut_plans}
+use Rattle.seq_optimizer.specs.declared.stats.VarStats.{VarStats}
 use Rattle.xprs_top.specs.declared.status.Status.{Status}
 use Rattle.xprs_top.specs.declared.status.Status.TheVariants.{NoMemory, TooLarge}
 use Rattle.xprs_top.specs.Statuses.{of_fetch}
@@ -51,13 +58,25 @@ pub record IsLarge (checked : Checked) (db : List Table) (number : ℕ) : Type 0
   pub first : IsFirstTooLarge (answers_over checked db) statement
   pub is : number ≡ statement + 1
 
--- For each question the lines of its best plan under a method, by what is counted of the tables as they are stored.
+-- what is known of the relations of a script, where their tables are laid so
+abbrev pub known_by : Checked → Laid → Known
+known_by checked laid = files_known checked.catalog laid.map (laid_indexes laid) (kept_by checked)
+
+-- the fragments that plans are cut into, each statement's answer with its fold
+abbrev pub pieces_over : Checked → Laid → List (List VarStats) → List Planned → List Piece
+pieces_over checked laid stats plans = map (folded (folds_by checked)) (cut_plans (known_by checked laid) stats plans)
+
+-- For each question the lines of its best plan under a method, by what is counted of the tables as they
+-- are stored and of what is kept, and of the fragments that the plans are cut into.
 pub record IsExplained (m : Method) (machine : Machine) (checked : Checked) (db : List Table) (text : List ℕ) : Type 0 where
   pub tables : List StoredTable
   pub stored : AreStored checked.catalog db tables
+  pub laid : Laid
+  pub are_laid : IsLaid tables machine.drives laid
+  pub stats : List (List VarStats)
   pub plans : List Planned
-  pub best : AreBestPlans checked.catalog tables m checked.questions plans
-  pub is : text ≡ explained machine [] 0 plans
+  pub best : AreBestPlans checked.catalog tables (kept_by checked) m checked.questions stats plans
+  pub is : text ≡ explained machine (pieces_over checked laid stats plans) 0 plans
 
 -- the text that is to be written, the answers of the questions, or their plans
 abbrev pub IsText : Job → List ℕ → Type 0
@@ -78,9 +97,10 @@ Answered checked db (Err (TooLarge number)) = IsLarge checked db number
 Answered checked db (Err NoMemory) = ⊤
 Answered checked db (Err other) = ⊥
 
--- the text of plans that were made, or why there is none
-abbrev pub Explains : Machine → Result (List Plan) FetchErr → Result (Vec ℕ) Status → Type 0
-Explains machine (Ok plans) (Ok text) = text.items ≡ explained machine [] 0 (map planned_of plans)
-Explains machine (Ok plans) (Err NoMemory) = ⊤
-Explains machine (Ok plans) (Err other) = ⊥
-Explains machine (Err e) result = result ≡ Err (of_fetch e)
+-- the text of plans that were made and of their fragments, or why there is none
+abbrev pub Explains : Checked → Laid → Machine → Result PlansAndStats FetchErr → Result (Vec ℕ) Status → Type 0
+Explains checked laid machine (Ok made) (Ok text) =
+    text.items ≡ explained machine (pieces_over checked laid made.stats (map planned_of made.plans)) 0 (map planned_of made.plans)
+Explains checked laid machine (Ok made) (Err NoMemory) = ⊤
+Explains checked laid machine (Ok made) (Err other) = ⊥
+Explains checked laid machine (Err e) result = result ≡ Err (of_fetch e)

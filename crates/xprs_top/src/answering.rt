@@ -88,10 +88,10 @@ fn answers_text(alloc: Global, answers: &[Shown<'_>]) -> Result<Vec<u8>, AllocEr
 }
 
 // The answers of a checked script over tables that were read, as a text.
-fn answered_text(alloc: Global, checked: &Checked, db: &Database) -> Result<Vec<u8>, Status>
-    requires over { AreOver checked.now db.now }
-    requires tables { All IsTable db.now }
-    ensures { Answered (read_of checked.now) db.now result }
+fn answered_text(alloc: Global, checked: &Checked, db: Database) -> Result<Vec<u8>, Status>
+    requires over { AreOver checked.now db }
+    requires tables { All IsTable db }
+    ensures { Answered (read_of checked.now) db result }
 {
     let read = &checked.read;
     match answer_folded_script(alloc, db, &read.queries, &read.kept, &read.folds)? {
@@ -122,7 +122,7 @@ fn laid_answers<D: Drive>(
     requires some { HasMachine (Aim.Make Answers machine.now) }
     requires count { length drives.old ≡ machine.now.drives }
     requires fresh { AllFresh D.Drive drives.old }
-    requires answerable { IsAnswerable Answers checked.now db }
+    requires answerable { IsAnswerable checked.now db }
     ensures count { length drives.new ≡ machine.now.drives }
     ensures made { (before now : ℕ) → Makes D.Drive (over Answers machine.now (read_of checked.now) db) before now drives.new result }
     ensures quiet { NoOtherFailed D.Drive (failed_drive result) drives.new }
@@ -136,7 +136,7 @@ fn laid_answers<D: Drive>(
         Ok(db) => db,
         Err(error) => return Err(Status::from(error)),
     };
-    answered_text(alloc, checked, &db)
+    answered_text(alloc, checked, db)
 }
 
 /// The answers of a checked script over its tables, by way of these drives.
@@ -150,7 +150,7 @@ pub(crate) fn answered<D: Drive>(
     requires some { HasMachine (Aim.Make Answers machine.now) }
     requires count { length drives.items ≡ machine.now.drives }
     requires fresh { AllFresh D.Drive drives.items }
-    requires answerable { IsAnswerable Answers checked.now db }
+    requires answerable { IsAnswerable checked.now db }
     ensures count { length result.drives.items ≡ machine.now.drives }
     ensures made { (before now : ℕ) → Makes D.Drive (over Answers machine.now (read_of checked.now) db) before now result.drives.items result.text }
     ensures quiet { NoOtherFailed D.Drive (failed_drive result.text) result.drives.items }

@@ -34,7 +34,7 @@ fn on_drives<D: Drive>(
     requires some { HasMachine (Aim.Make goal machine.now) }
     requires count { length drives.items ≡ machine.now.drives }
     requires fresh { AllFresh D.Drive drives.items }
-    requires answerable { IsAnswerable goal checked.now db }
+    requires answerable { IsAnswerable checked.now db }
     ensures count { length result.drives.items ≡ machine.now.drives }
     ensures made { (before now : ℕ) → Makes D.Drive (over goal machine.now (read_of checked.now) db) before now result.drives.items result.text }
     ensures others { NoOtherFailed D.Drive (failed_drive result.text) result.drives.items }
@@ -55,7 +55,7 @@ fn over_tables<K: Rack>(
     db: Database,
 ) -> Made<K::Drive>
     requires some { HasMachine (Aim.Make goal machine.now) }
-    requires answerable { IsAnswerable goal checked.now db }
+    requires answerable { IsAnswerable checked.now db }
     ensures made { Makes K.Drive.Drive (over goal machine.now (read_of checked.now) db) (K.faults rack.old) (K.faults rack.new) result.drives.items result.text }
     ensures quiet { result.text ≢ Err (status.DriveFault None) → Stands (K.faults rack.old) (K.faults rack.new) }
     ensures others { NoOtherFailed K.Drive.Drive (failed_drive result.text) result.drives.items }

@@ -1,13 +1,12 @@
 //! What the bytes of a catalogue and of a script are read as.
-ghost use Rattle.std.specs.Prelude.{◌≡◌, ◌≤◌, All, IfOk, false, length, map};
-ghost use Rattle.std.specs.List.{list_any};
+ghost use Rattle.std.specs.Prelude.{◌≡◌, ◌≤◌, All, IfOk, length, map};
 ghost use Rattle.postquel.specs.Program.{program_of};
 ghost use Rattle.catalog_load.specs.Limits.{HasLimits};
 ghost use Rattle.catalog_load.specs.Readings as catalog;
 ghost use Rattle.name_check.specs.Machine.{machine_steps};
 ghost use Rattle.name_check.specs.FoldFit.{questions_of};
-ghost use Rattle.name_check.specs.Sentences.{HasNoFault, HasNumbers, heading_of, is_kept, queries_of};
-ghost use Rattle.query_planner.specs.Plans.{MayPlan};
+ghost use Rattle.name_check.specs.Resolved.{MayAskEach};
+ghost use Rattle.name_check.specs.Sentences.{HasNoFault, HasNumbers, heading_of, queries_of};
 ghost use Rattle.rel_meaning.specs.Expression.{question_of};
 ghost use Rattle.xprs_top.specs.Inputs.{Finds, IsParsed, checked_of};
 ghost use Rattle.xprs_top.specs.Tasks.{HasIndexColumn, MayServe};
@@ -92,7 +91,7 @@ fn queries_in(
     ensures value { Finds (λ q. map question_of q) result (Just (checked_in name.now (queries_of (map heading_of catalog.now) (program_of script.now).sentences))) }
     ensures faultless { IfOk result (λ queries. HasNoFault catalog.now (program_of script.now).sentences) }
     ensures same { IfOk result (λ queries. questions_of catalog.now (program_of script.now).sentences ≡ map question_of queries) }
-    ensures planned { IfOk result (λ queries. list_any is_kept (program_of script.now).sentences ≡ false → All (λ q. MayPlan catalog.now (question_of q)) queries) }
+    ensures asked { IfOk result (λ queries. MayAskEach (map heading_of catalog.now) (program_of script.now).sentences) }
 {
     match resolve(alloc, script, catalog) {
         Ok(queries) => Ok(queries),

@@ -44,8 +44,6 @@ pub enum Unbuilt {
     Generation,
     /// `alone --trace`, the answers with the events of the run.
     Trace,
-    /// `explain` of a script with a fold, or of one that keeps an answer.
-    Folds,
 }
 
 /// How a run ended.
@@ -73,7 +71,7 @@ pub enum Status {
         needs: u64,
         capacity: u32,
     },
-    /// The words or the script ask for what isn't built yet.
+    /// The words ask for what isn't built yet.
     NotBuilt(Unbuilt),
     /// The answer of this statement, counted from 1, is too large: a sum leaves 64 bits, or a group has
     /// 2^48 rows.

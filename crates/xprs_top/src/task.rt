@@ -7,16 +7,15 @@ ghost use Rattle.postquel.specs.Print.{script_text};
 ghost use Rattle.postquel.specs.Program.{program_of};
 ghost use Rattle.table_store.specs.Databases.{MayStore};
 ghost use Rattle.xprs_top.specs.Inputs.{Finds, Told, job_of, read_of};
-ghost use Rattle.xprs_top.specs.Readings.{IsJob, Just, bind, is_unbuilt, over_tables, tables_of, write};
+ghost use Rattle.xprs_top.specs.Readings.{IsJob, Just, bind, over, tables_of, write};
 ghost use Rattle.xprs_top.specs.Requests.{HasMachine, drives_for, request_of};
 ghost use Rattle.xprs_top.specs.Runs.{IsCheck};
 ghost use Rattle.xprs_top.specs.Tasks.{HasIndexColumn, IsPrint, IsReady, MayServe, task_drives};
 
+use crate::Status;
 use crate::goal::{Aim, Goal};
 use crate::input::{Checked, read_checked, read_tables};
 use crate::words::Operands;
-use crate::{Status, Unbuilt};
-use name_check::{has_fold, has_into};
 use postquel::{Script, print};
 use rel_meaning::Database;
 use rows::Machine;
@@ -35,16 +34,6 @@ pub(crate) enum Task {
     },
 }
 
-// Whether what is asked for of the script isn't built yet.
-fn has_unbuilt(goal: Goal, script: &Script) -> bool
-    ensures { result ≡ is_unbuilt goal (program_of script.now) }
-{
-    match goal {
-        Goal::Answers => false,
-        Goal::Plans(_) => has_fold(script) || has_into(script),
-    }
-}
-
 // To write a script in its printed form.
 fn print_task(alloc: Global, script: &Script) -> Result<Task, Status>
     ensures value { Finds job_of result (Just (Ok (write (script_text (program_of script.now))))) }
@@ -54,27 +43,7 @@ fn print_task(alloc: Global, script: &Script) -> Result<Task, Status>
     Ok(Task::Print(print(alloc, script)?))
 }
 
-// To make something of a checked script and its tables.
-fn built_task(goal: Goal, machine: Machine, checked: Checked, db: Database) -> Result<Task, Status>
-    requires drives { HasMachine (Aim.Make goal machine) }
-    requires serve { MayServe checked.catalog checked.read }
-    requires stored { MayStore checked.catalog db }
-    ensures value { Finds job_of result (Just (over_tables goal machine (read_of checked) db)) }
-    ensures ready { IfOk result IsReady }
-    ensures drives { IfOk result (λ task. task_drives task ≡ machine.drives) }
-{
-    if has_unbuilt(goal, &checked.read.script) {
-        return Err(Status::NotBuilt(Unbuilt::Folds));
-    }
-    Ok(Task::Over {
-        goal,
-        machine,
-        checked,
-        db,
-    })
-}
-
-// The same, for which the tables are read.
+// To make something of a checked script and its tables, which are read.
 fn tables_task<S: Shelf>(
     alloc: Global,
     shelf: &mut S,
@@ -89,12 +58,17 @@ fn tables_task<S: Shelf>(
     ensures files { S.files shelf.new ≡ S.files shelf.old }
     ensures count { S.faults shelf.old ≤ S.faults shelf.new }
     ensures quiet { result ≢ Err status.ShelfFault → Stands (S.faults shelf.old) (S.faults shelf.new) }
-    ensures told { Told (S.files shelf.old) (S.faults shelf.old) (S.faults shelf.new) job_of result (λ files. Just (bind (tables_of files checked.catalog) (over_tables goal machine (read_of checked)))) }
+    ensures told { Told (S.files shelf.old) (S.faults shelf.old) (S.faults shelf.new) job_of result (λ files. Just (bind (tables_of files checked.catalog) (λ db. Ok (over goal machine (read_of checked) db)))) }
     ensures ready { IfOk result IsReady }
     ensures drives { IfOk result (λ task. task_drives task ≡ machine.drives) }
 {
     let db = read_tables(alloc, shelf, &checked.catalog)?;
-    built_task(goal, machine, checked, db)
+    Ok(Task::Over {
+        goal,
+        machine,
+        checked,
+        db,
+    })
 }
 
 /// The task that the words ask for.

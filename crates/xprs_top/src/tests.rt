@@ -78,11 +78,15 @@ cat relation Z from \"z.csv\" (n = text) @ retrieve (x = 1) \\g -> 2 xprs: z.csv
 
 // Each line is what stands behind the operands of `explain`, a script, and what is answered.
 const PLANS: &str =
-    " @ retrieve (e.name, d.floor) from e in EMP, d in DEPT where e.dept = d.dname \\g -> 0 statement 1 cost 34|plan (e:heap * d:heap)|
---join hash @ retrieve (e.name, d.floor, x = f.name) from e in EMP, d in DEPT, f in EMP where e.dept = d.dname and f.sal = 900 \\g -> 0 statement 1 cost 53|plan (e:heap * (f:heap * d:heap))|
---join merge @ retrieve (e.name, d.floor) from e in EMP, d in DEPT where e.dept = d.dname \\g -> 0 statement 1 cost 43|plan (e:heap ~ d:heap)|
- @ retrieve (x = 1) \\g retrieve (ITEM.title) where ITEM.id = 7 \\g -> 0 statement 1 cost 1|plan one|statement 2 cost 12|plan ITEM:heap|
- @ retrieve (n = count(EMP.name)) \\g -> 9 xprs: plans of folds and into are not built yet|
+    " @ retrieve (e.name, d.floor) from e in EMP, d in DEPT where e.dept = d.dname \\g -> 0 statement 1 cost 34|plan (e:heap * d:heap)|fragment 0 positions 1 pages 1 time 11 io solo 2|fragment 1 positions 1 pages 1 time 14 io solo 3|
+--join hash @ retrieve (e.name, d.floor, x = f.name) from e in EMP, d in DEPT, f in EMP where e.dept = d.dname and f.sal = 900 \\g -> 0 statement 1 cost 53|plan (e:heap * (f:heap * d:heap))|fragment 0 positions 1 pages 1 time 11 io solo 2|fragment 1 positions 1 pages 1 time 11 io solo 2|fragment 2 positions 1 pages 1 time 17 cpu solo 4|
+--join merge @ retrieve (e.name, d.floor) from e in EMP, d in DEPT where e.dept = d.dname \\g -> 0 statement 1 cost 43|plan (e:heap ~ d:heap)|fragment 0 positions 1 pages 1 time 11 io solo 2|fragment 1 positions 1 pages 1 time 11 io solo 2|fragment 2 positions 64 pages 0 time 6 cpu solo 4|
+ @ retrieve (x = 1) \\g retrieve (ITEM.title) where ITEM.id = 7 \\g -> 0 statement 1 cost 1|plan one|fragment 0 positions 1 pages 0 time 1 cpu solo 4|statement 2 cost 12|plan ITEM:heap|fragment 1 positions 1 pages 1 time 12 io solo 3|
+ @ retrieve (n = count(EMP.name)) \\g -> 0 statement 1 cost 11|plan EMP:heap|fragment 0 positions 1 pages 1 time 11 io solo 2|
+ @ retrieve into RICH (EMP.name, EMP.dept) where EMP.sal > 1000 \\g retrieve (RICH.name, DEPT.floor) where RICH.dept = DEPT.dname \\g -> 0 statement 1 cost 11|plan EMP:heap|fragment 0 positions 1 pages 1 time 11 io solo 2|statement 2 cost 18|plan (RICH:heap * DEPT:heap)|fragment 1 positions 1 pages 0 time 1 cpu solo 4|fragment 2 positions 1 pages 1 time 14 io solo 3|
+--join hash @ retrieve (x = a.sal) from a in EMP, b in EMP, c in EMP, d in EMP, e in EMP, f in EMP where a.sal = b.sal and b.sal = c.sal and c.sal = d.sal and d.sal = e.sal and e.sal = f.sal \\g -> 0 statement 1 cost 126|plan (a:heap * (b:heap * (c:heap * (d:heap * (e:heap * f:heap)))))|fragment 0 positions 1 pages 1 time 11 io solo 2|fragment 1 positions 1 pages 1 time 11 io solo 2|fragment 2 positions 1 pages 1 time 11 io solo 2|fragment 3 positions 1 pages 1 time 11 io solo 2|fragment 4 positions 1 pages 1 time 11 io solo 2|fragment 5 positions 1 pages 1 time 26 cpu solo 4|
+--join merge @ retrieve (x = a.sal) from a in EMP, b in EMP, c in EMP, d in EMP, e in EMP, f in EMP where a.sal = b.sal and b.sal = c.sal and c.sal = d.sal and d.sal = e.sal and e.sal = f.sal \\g -> 0 statement 1 cost 171|plan (a:heap ~ (b:heap ~ (c:heap ~ (d:heap ~ (e:heap ~ f:heap)))))|fragment 0 positions 1 pages 1 time 11 io solo 2|fragment 1 positions 1 pages 1 time 11 io solo 2|fragment 2 positions 1 pages 1 time 11 io solo 2|fragment 3 positions 1 pages 1 time 11 io solo 2|fragment 4 positions 1 pages 1 time 11 io solo 2|fragment 5 positions 1 pages 1 time 11 io solo 2|fragment 6 positions 64 pages 0 time 6 cpu solo 4|fragment 7 positions 64 pages 0 time 6 cpu solo 4|fragment 8 positions 64 pages 0 time 6 cpu solo 4|fragment 9 positions 64 pages 0 time 6 cpu solo 4|fragment 10 positions 64 pages 0 time 6 cpu solo 4|
+--backends 2 @ machine 2 after 1 \\g retrieve (x = 1) \\g -> 0 statement 1 cost 1|plan one|fragment 0 positions 1 pages 0 time 1 cpu solo 2|
  @ retrieve (EMP.name)| -> 2 xprs: q:2:1: Unexpected|";
 
 // Each line is the words of a run, and what is answered.
@@ -543,18 +547,26 @@ fn an_index_is_searched_where_a_statement_bounds_its_column(rt: HostRuntime) -> 
         ..SOUND
     };
     let cases: [(&str, Devices<'_>, &str); 5] = [
-        (few, SOUND, "0 statement 1 cost 61|plan NUM:index|"),
-        (first, SOUND, "0 statement 1 cost 97|plan NUM:index|"),
+        (
+            few,
+            SOUND,
+            "0 statement 1 cost 61|plan NUM:index|fragment 0 positions 5 pages 7 time 61 io solo 2|",
+        ),
+        (
+            first,
+            SOUND,
+            "0 statement 1 cost 97|plan NUM:index|fragment 0 positions 9 pages 11 time 97 io solo 2|",
+        ),
         (first, failing, "4 xprs: drive 0 failed|"),
         (
             "retrieve (NUM.n) where NUM.n > 2 \\g",
             SOUND,
-            "0 statement 1 cost 1008|plan NUM:heap|",
+            "0 statement 1 cost 1008|plan NUM:heap|fragment 0 positions 1 pages 1 time 1008 cpu solo 4|",
         ),
         (
             "retrieve (NUM.n) \\g",
             failing,
-            "0 statement 1 cost 1008|plan NUM:heap|",
+            "0 statement 1 cost 1008|plan NUM:heap|fragment 0 positions 1 pages 1 time 1008 cpu solo 4|",
         ),
     ];
     for (script, devices, wanted) in cases {

@@ -1,4 +1,4 @@
-use Rattle.std.proofs.Common.{◌≡◌, ◌+◌, ◌∙◌, Option, Some, None, List, refl, ap, sym, subst, length}
+use Rattle.std.proofs.Common.{◌≡◌, ◌+◌, ◌∙◌, Option, Some, None, List, ap, sym, subst, length}
 use Rattle.std.specs.Prelude.{IfOk, MatchResult}
 use Rattle.heap_page.proofs.Found.{one_at}
 use Rattle.key_index.specs.Files.{HoldsIndex}

@@ -5,9 +5,3 @@ pub returns-in_err-stats-clause-told : goal.returns-in_err-stats-clause-told
 returns-in_err-stats-clause-told g c = λ tables tells.
     let p = err_from_is_err_and c.from_residual.result c.from_residual.ensures.1 in
     rw (p.1, p.2) (c.in_err-stats.ensures.told tables tells)
-
-pub returns-clause-told : goal.returns-clause-told
-returns-clause-told g c = λ tables tells. record { query = c.in_ok-optimise.ensures.query; stats = c.in_ok-stats.stats; are = c.in_ok-stats.ensures.told tables tells; best = c.in_ok-optimise.ensures.tree }
-
-pub returns-clause-tree : goal.returns-clause-tree
-returns-clause-tree g c = record { query = c.in_ok-optimise.ensures.query; stats = c.in_ok-stats.stats; left = c.in_ok-stats.ensures.left; best = c.in_ok-optimise.ensures.tree }

@@ -1,6 +1,6 @@
 use Rattle.std.proofs.Common.{◌≡◌, ◌∙◌, ℕ, List, Option, ap, length, map, subst, sym}
 use Rattle.std.specs.Prelude.{IfOk}
-use Rattle.std.proofs.lemmas.Result.{IfErr-weaker, MatchResult-at_err, MatchResult-weaker}
+use Rattle.std.proofs.lemmas.Result.{IfErr-weaker, IfOk-weaker, MatchResult-at_err, MatchResult-weaker}
 use Rattle.buffer_pool.specs.Images.{image_on}
 use Rattle.buffer_pool.specs.Lone.{count_at, drives_of, map_of}
 use Rattle.buffer_pool.specs.declared.mounted.Mounted.{Mounted}
@@ -14,6 +14,7 @@ use Rattle.query_planner.specs.Plans.{AreBestPlans, ArePlannedOver}
 use Rattle.query_planner.specs.Stored.{AreOf}
 use Rattle.query_planner.specs.Told.{AreTold}
 use Rattle.query_planner.proofs.Causing.{of_drives, quiet_of}
+use Rattle.query_planner.proofs.MayBeCut.{may_be_cut}
 use Rattle.query_planner.proofs.Telling.{tells}
 use Rattle.query_planner.proofs.planning.plan_queries.Goals as goal
 
@@ -31,7 +32,9 @@ returns-clause-accepted g c = λ tables bad are hold tell is.
     let here = subst (λ (n : ℕ). AreOf c.args.relations.now c.args.rows.now laid n tables) c.args.drives.ok.0 are in
     let told = tells g.D.Drive c.args.relations.now c.args.rows.now laid tables c.args.drives.items here hold tell in
     let pool = subst (λ (image : Option (ℕ → ℕ → List ℕ)). AreTold c.args.relations.now c.args.rows.now laid tables image) (sym c.in-Ok.ensures.image) told in
-    MatchResult-at_err (λ plans. AreBestPlans c.args.relations.now tables c.args.method (map question_of c.args.queries.now) (map planned_of plans)) NotBad (BadPage bad) is (c.plans_of-plans.ensures.told tables pool)
+    MatchResult-at_err (λ plans. AreBestPlans c.args.relations.now tables c.args.kept.now
+    c.args.method (map question_of c.args.queries.now) plans.stats (map planned_of plans.plans))
+    NotBad (BadPage bad) is (c.plans_of-plans.ensures.told tables pool)
 
 pub returns-clause-err : goal.returns-clause-err
 returns-clause-err g c =
@@ -50,8 +53,20 @@ returns-clause-err g c =
 
 pub returns-clause-trees : goal.returns-clause-trees
 returns-clause-trees g c =
-    subst (λ (image : Option (ℕ → ℕ → List ℕ)). IfOk c.plans_of-plans.result (λ plans. ArePlannedOver c.args.relations.now c.args.laid.now image c.args.method (map question_of c.args.queries.now) (map planned_of plans))) c.in-Ok.ensures.image c.plans_of-plans.ensures.trees
+    subst (λ (image : Option (ℕ → ℕ → List ℕ)). IfOk c.plans_of-plans.result
+    (λ plans. ArePlannedOver c.args.relations.now c.args.laid.now image c.args.kept.now
+    c.args.method (map question_of c.args.queries.now) plans.stats
+    (map planned_of plans.plans))) c.in-Ok.ensures.image c.plans_of-plans.ensures.trees
 
 pub returns-clause-quiet : goal.returns-clause-quiet
 returns-clause-quiet g c =
     quiet_of g.D.Drive (fetch_fault c.plans_of-plans.result) c.args.drives.items c.into_drives.result.items c.in-Ok.pool.shards.items c.plans_of-plans.new.pages.shards.items c.in-Ok.ensures.new.same c.into_drives.ensures.drives c.plans_of-plans.ensures.quiet
+
+pub returns-clause-cut : goal.returns-clause-cut
+returns-clause-cut g c = λ may.
+    let laid = c.args.laid.now in
+    IfOk-weaker c.plans_of-plans.result _ _
+    (λ made h. may_be_cut c.args.relations.now c.args.rows.now laid c.args.drives.len
+    c.args.kept.now _ c.args.method (map question_of c.args.queries.now) made.stats
+    (map planned_of made.plans) c.requires.stands c.requires.queries may h)
+    c.plans_of-plans.ensures.trees

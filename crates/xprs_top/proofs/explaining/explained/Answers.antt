@@ -1,7 +1,3 @@
-use Rattle.std.specs.List.{list_any}
-use Rattle.postquel.specs.Program.{program_of}
-use Rattle.name_check.specs.Sentences.{has_fold, is_kept}
-use Rattle.xprs_top.proofs.Joined.{or_right}
 use Rattle.std.proofs.Common.{◌≡◌, ◌∙◌, sym, subst, ap, length, drop, take, ◌++◌, arith, Err}
 use Rattle.table_store.specs.Databases.{AllFresh}
 use Rattle.heap_page.specs.Stores.{AreQuiet, AreRead, fetch_fault}
@@ -13,7 +9,7 @@ use Rattle.xprs_top.specs.Inputs.{read_of}
 use Rattle.xprs_top.specs.Readings.{over}
 use Rattle.xprs_top.proofs.Counts.{fresh_stay, named_by, named_plans, named_store}
 use Rattle.xprs_top.proofs.Devices.{lay_made, whole_slice}
-use Rattle.xprs_top.proofs.Explained.{counted, made_plans, stands}
+use Rattle.xprs_top.proofs.Explained.{counted, made_plans, may_cut, stands}
 use Rattle.xprs_top.proofs.explaining.explained.Goals as goal
 
 pub returns-in-Err-clause-made : goal.returns-in-Err-clause-made
@@ -45,9 +41,11 @@ plan_queries-plans-requires-clause-room g c =
     rw (whole_slice c.args.drives.len mids (drop (length mids) c.args.drives.items) same) c.in-Ok.ensures.laid.room
 
 pub plan_queries-plans-requires-clause-queries : goal.plan_queries-plans-requires-clause-queries
-plan_queries-plans-requires-clause-queries g c =
-    let sentences = (program_of c.args.checked.now.read.script).sentences in
-    rw c.items-queries.ensures (c.requires.answerable.serve.planned (or_right (list_any has_fold sentences) (list_any is_kept sentences) c.requires.answerable.built))
+plan_queries-plans-requires-clause-queries g c = rw c.items-queries.ensures c.requires.answerable.serve.plan
+
+pub plans_text-requires-clause-cut : goal.plans_text-requires-clause-cut
+plans_text-requires-clause-cut g c =
+    c.plan_queries-plans.ensures.cut (rw c.items-queries.ensures (may_cut c.args.checked.now.catalog c.args.db c.args.checked.now.read c.requires.answerable.stored c.requires.answerable.serve))
 
 pub returns-clause-made : goal.returns-clause-made
 returns-clause-made g c = λ before now.
@@ -65,7 +63,7 @@ returns-clause-made g c = λ before now.
     made_plans g.D.Drive (read_of c.args.checked.now) c.args.db c.args.machine.now before now c.args.method olds mids c.plan_queries-plans.result.drives.items laid count fresh c.in-Ok.ensures.kept c.in-Ok.ensures.laid
     (rw (← whole) c.plan_queries-plans.ensures.read) rows (counted g.D.Drive c.args.checked.now.catalog c.args.db olds mids laid rows c.in-Ok.ensures.laid c.requires.answerable.stored c.args.machine.now.drives count numbers)
     c.plan_queries-plans.result.plans c.plans_text.result
-    (rw (← whole, ← all, ← c.items-queries.ensures) c.plan_queries-plans.ensures.plans)
+    (rw (← whole, ← all, ← c.items-queries.ensures, ← c.requires.answerable.serve.kept) c.plan_queries-plans.ensures.plans)
     (rw (← whole, ← all) c.plan_queries-plans.ensures.accepted)
     (rw (← whole) c.plan_queries-plans.ensures.err) c.plans_text.ensures
 
@@ -92,6 +90,6 @@ returns-clause-quiet g c =
     let whole = whole_slice c.args.drives.len mids (drop (length mids) c.args.drives.items) same in
     let read : AreRead g.D.Drive mids back = rw (← whole) c.plan_queries-plans.ensures.read in
     let quiet : AreQuiet g.D.Drive (fetch_fault plans) mids back = rw (← whole) c.plan_queries-plans.ensures.quiet in
-    subst (λ fault. NoOtherFailed g.D.Drive fault back) (sym (named_plans c.args.machine.now plans c.plans_text.result c.plans_text.ensures))
+    subst (λ fault. NoOtherFailed g.D.Drive fault back) (sym (named_plans (read_of c.args.checked.now) c.in-Ok.counted.laid c.args.machine.now plans c.plans_text.result c.plans_text.ensures))
     (fresh_stay g.D.Drive (fetch_fault plans) olds back (read.len ∙ c.in-Ok.ensures.kept.len) fresh
     (quiet_trans g.D.Drive (fetch_fault plans) olds mids back c.in-Ok.ensures.kept.len c.in-Ok.ensures.quiet quiet))

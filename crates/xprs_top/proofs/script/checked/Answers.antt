@@ -1,11 +1,12 @@
-use Rattle.std.proofs.Common.{◌≡◌, ◌∙◌, ap, sym, subst, map, length, arith}
+use Rattle.std.proofs.Common.{◌≡◌, ◌≤◌, ◌∙◌, All, ap, sym, subst, map, length, arith}
 use Rattle.std.proofs.lemmas.List.{length-map}
 use Rattle.postquel.specs.Program.{program_of}
 use Rattle.kept_relations.specs.Fitting.{FitKept}
 use Rattle.name_check.specs.FoldFit.{FitFolds, catalog_columns, questions_of}
 use Rattle.name_check.specs.Sentences.{heading_of}
-use Rattle.rel_meaning.specs.Expression.{question_of}
-use Rattle.xprs_top.proofs.Asked.{fold_queries, header_each, question_each}
+use Rattle.rel_meaning.specs.Expression.{Question, question_of}
+use Rattle.fragments.specs.Premises.{IsKept}
+use Rattle.xprs_top.proofs.Asked.{HasKeys, all_narrow, few_each, fold_queries, header_each, keys_each, question_each}
 use Rattle.xprs_top.proofs.script.checked.Goals as goal
 
 pub returns-clause-serve : goal.returns-clause-serve
@@ -25,9 +26,10 @@ returns-clause-serve c =
       headers = c.in_ok-headers.ensures;
       kept = c.in_ok-kept.ensures.value;
       folds = c.in_ok-folds.ensures.value;
-      fit_kept = fits;
+      plan = record { fits = fits; few = subst (All (λ (q : Question). length q.vars ≤ 6)) same (few_each (map heading_of catalog) sentences c.in_ok-queries.ensures.asked) };
       fit_folds = fold_queries (catalog_columns catalog) c.in_ok-kept.kept c.in_ok-folds.folds asked fits.queries folds;
       many = headers ∙ sym queries;
       few = omega (arith, queries, c.requires.few);
-      planned = c.in_ok-queries.ensures.planned;
+      bounds = subst (All IsKept) (sym c.in_ok-kept.ensures.value) (all_narrow (map heading_of catalog) sentences c.in_ok-queries.ensures.faultless);
+      keys = subst (All HasKeys) same (keys_each (map heading_of catalog) sentences c.in_ok-queries.ensures.asked);
     }
